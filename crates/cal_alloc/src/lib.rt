@@ -1,0 +1,2 @@
+//! Offsets, chunk layouts and the allocators that hand out chunks of a segment.
+#![tactic(auto)]

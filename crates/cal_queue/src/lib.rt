@@ -1,0 +1,2 @@
+//! Queues and used lists of one thread, and rings for two.
+#![tactic(auto)]
