@@ -1,0 +1,16 @@
+//! The transport: commands and replies, the ledger that they are a run of, and the calls that serve them.
+#![tactic(auto)]
+
+mod bytes;
+mod command;
+mod replies;
+mod reply;
+mod run;
+mod settings;
+
+pub use bytes::Bytes;
+pub use command::Command;
+pub use replies::Replies;
+pub use reply::{Count, Refusal, Reply, Slot};
+pub use run::{RunError, run_transport};
+pub use settings::{CreateCause, Settings};
