@@ -5,3 +5,4 @@ pub mod Ledger
 pub mod Cause
 pub mod Step
 pub mod Run
+pub mod Examples

@@ -3,6 +3,7 @@
 
 mod bytes;
 mod command;
+pub mod examples;
 mod replies;
 mod reply;
 mod run;

@@ -1,7 +1,7 @@
 //! What a transport is made with, and why it may not be made.
 
-ghost use Rattle.std.specs.Prelude.{◌≡◌, ◌<◌, ◌||◌};
-ghost use Rattle.cal_transport.specs.Settings.{clamped, create_cause, first_buckets, is_too_large, has_too_large_connection};
+ghost use Rattle.std.specs.Prelude.{◌≡◌, ◌<◌, ◌^◌, ◌||◌, ◌==◌};
+ghost use Rattle.cal_transport.specs.Settings.{clamped, create_cause, first_buckets, payload, is_too_large, has_too_large_connection};
 
 use cal_alloc::AllocationStrategy;
 
@@ -70,7 +70,7 @@ impl Settings {
             Some(CreateCause::BadLayout)
         } else if self.is_too_large() {
             Some(CreateCause::SizeOutOfRange)
-        } else if self.count == 0 {
+        } else if self.is_empty() {
             Some(CreateCause::SizeIsZero)
         } else if self.alignment > 4096 {
             Some(CreateCause::InternalError)
@@ -96,10 +96,29 @@ impl Settings {
         if self.count >= 1 << 32 {
             return true;
         }
+        self.bucket_size() * self.count as u128 > 1 << 56
+    }
+
+    /// Whether the first segment has no byte.
+    fn is_empty(&self) -> bool
+        requires aligned { 0 < self.now.alignment }
+        ensures value { result ≡ (payload (first_buckets self.now) == 0) }
+    {
+        if self.count == 0 {
+            return true;
+        }
+        self.bucket_size() == 0
+    }
+
+    /// The size in bytes of the first segment's buckets.
+    fn bucket_size(&self) -> u128
+        requires aligned { 0 < self.now.alignment }
+        ensures value { result ≡ (first_buckets self.now).size }
+        ensures bound { result < 2 ^ 65 }
+    {
         let alignment = self.alignment as u128;
-        let size = self.size.max(1) as u128;
-        let bucket = size + (alignment - size % alignment) % alignment;
-        bucket * self.count as u128 > 1 << 56
+        let size = self.size as u128;
+        size + (alignment - size % alignment) % alignment
     }
 
     fn has_too_large_connection(&self) -> bool
