@@ -2,5 +2,9 @@
 #![tactic(auto)]
 
 mod allocation_strategy;
+mod layout;
+mod pointer_offset;
 
 pub use allocation_strategy::AllocationStrategy;
+pub use layout::Layout;
+pub use pointer_offset::{PointerOffset, SegmentId, SegmentIdUnderlyingType};
