@@ -1,5 +1,5 @@
-ghost use Rattle.std.specs.Prelude.{◌≡◌, IsTrue, SomeIff};
-ghost use Rattle.std.specs.Int.{is_power_of_two};
+ghost use Rattle.std.specs.Prelude.{◌≡◌, ◌<◌, ◌^◌, IsTrue, SomeIff};
+ghost use Rattle.std.specs.Int.{is_power_of_two, next_multiple_of};
 
 use std::marker::Model;
 
@@ -51,4 +51,12 @@ impl Layout {
     {
         self.alignment
     }
+}
+
+/// The least multiple of the alignment that is the size or more; `None` from 2^64 on.
+pub(crate) fn checked_next_multiple_of(size: usize, alignment: usize) -> Option<usize>
+    requires { 0 < alignment }
+    ensures { SomeIff result (next_multiple_of size alignment < 2 ^ 64) (next_multiple_of size alignment) }
+{
+    size.checked_add((alignment - size % alignment) % alignment)
 }

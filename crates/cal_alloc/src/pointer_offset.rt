@@ -118,6 +118,11 @@ impl PointerOffset {
 
 impl fmt::Debug for PointerOffset {
     fn fmt<W: fmt::Write>(&self, f: &mut fmt::Formatter<W>) -> fmt::Result {
-        write!(f, "PointerOffset {{ offset: {}, segment_id: {:?} }}", self.offset(), self.segment_id())
+        write!(
+            f,
+            "PointerOffset {{ offset: {}, segment_id: {:?} }}",
+            self.offset(),
+            self.segment_id()
+        )
     }
 }
