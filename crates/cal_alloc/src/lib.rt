@@ -14,3 +14,6 @@ pub use pool_allocator::PoolAllocator;
 pub use shm_allocator::{
     ShmAllocationError, ShmAllocator, ShmAllocatorConfig, ShmAllocatorInitError,
 };
+
+#[cfg(test)]
+mod tests;

@@ -1,8 +1,9 @@
 //! The pool cuts its memory into equal buckets and hands each out whole.
 
-ghost use Rattle.std.specs.Prelude.{◌≡◌, ◌<◌, ◌^◌, true, not, IsTrue, IsFalse, SomeIff, position};
+ghost use Rattle.std.specs.Prelude.{◌≡◌, ◌<◌, ◌^◌, true, not, IsTrue, IsFalse, SomeIff, position, refl};
+ghost use Rattle.std.proofs.Common.{ap};
 ghost use Rattle.cal_alloc.specs.Growth.{padded_size};
-ghost use Rattle.cal_alloc.specs.Pool.{pool_fits, buckets_within, new_pool, is_full, number_of_used, pool_refusal, GivesFreeBucket, IsUsedBucket, given_back};
+ghost use Rattle.cal_alloc.specs.Pool.{Pool, pool_fits, buckets_within, new_pool, is_full, number_of_used, pool_refusal, GivesFreeBucket, IsUsedBucket, given_back};
 
 use crate::layout::{Layout, checked_next_multiple_of};
 use crate::pointer_offset::PointerOffset;
@@ -152,6 +153,14 @@ impl ShmAllocator for PoolAllocator {
     ghost IsOut = { IsUsedBucket };
 
     ghost given_back = { given_back };
+
+    ghost new_uninit_unready = { λ _ _ _. refl };
+
+    ghost readied_ready = { λ _. refl };
+
+    ghost allocates_keeps_ready = { λ old layout place new gives. ap (λ (pool : Pool). pool.is_ready) gives.after };
+
+    ghost given_back_keeps_ready = { λ _ _. refl };
 
     fn fits(memory_size: usize, config: &Config) -> bool {
         let layout = config.bucket_layout;

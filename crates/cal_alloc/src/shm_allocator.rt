@@ -124,4 +124,13 @@ pub trait ShmAllocator: Debug + Drop {
     fn deallocate(&mut self, distance: PointerOffset, layout: Layout)
         requires { IsOut self.old distance }
         ensures { self.new ≡ given_back self.old distance };
+
+    // Only `init` makes an allocator ready, and no other call ends that.
+    ghost new_uninit_unready: { (alignment size : ℕ) (config : Self.Configuration) → IsFalse (is_ready (new_uninit alignment size config)) };
+
+    ghost readied_ready: { (old : Self) → IsTrue (is_ready (readied old)) };
+
+    ghost allocates_keeps_ready: { (old : Self) (layout : SizeAndAlignment) (place : ℕ) (new : Self) → Allocates old layout place new → is_ready new ≡ is_ready old };
+
+    ghost given_back_keeps_ready: { (old : Self) (place : ℕ) → is_ready (given_back old place) ≡ is_ready old };
 }
