@@ -1,1 +1,5 @@
 pub mod Growth
+pub mod PointerOffset
+pub mod Pool
+pub mod PoolFields
+pub mod SizeAndAlignment

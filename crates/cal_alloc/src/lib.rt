@@ -2,5 +2,18 @@
 #![tactic(auto)]
 
 mod allocation_strategy;
+mod layout;
+mod pointer_offset;
+pub mod pool_allocator;
+mod shm_allocator;
 
 pub use allocation_strategy::AllocationStrategy;
+pub use layout::Layout;
+pub use pointer_offset::{PointerOffset, SegmentId, SegmentIdUnderlyingType};
+pub use pool_allocator::PoolAllocator;
+pub use shm_allocator::{
+    ShmAllocationError, ShmAllocator, ShmAllocatorConfig, ShmAllocatorInitError,
+};
+
+#[cfg(test)]
+mod tests;

@@ -1,0 +1,4 @@
+pub mod Marks
+pub mod Padding
+pub mod PoolFacts
+pub mod PoolLemmas

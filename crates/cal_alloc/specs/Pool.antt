@@ -1,0 +1,88 @@
+-- A pool: a row of equal buckets, each free or used. A bucket is named by its number, from 0, and starts at that number
+-- times the bucket size.
+use Rattle.std.specs.Prelude.{ℕ, ◌+◌, ◌*◌, ◌/◌, ◌^◌, ◌<◌, ◌≡◌, List, Bool, true, false, ◌&&◌, nat_lt, nat_le, if◌then◌else◌, Option, Some, None, slice_index_or, slice_set, replicate, count_by}
+use Rattle.std.specs.List.{list_all}
+use Rattle.cal_alloc.specs.Growth.{Buckets, padded_size}
+use Rattle.cal_alloc.specs.SizeAndAlignment.{SizeAndAlignment}
+use Rattle.cal_alloc.specs.PointerOffset.{pointer_offset, offset_of}
+use Rattle.cal_alloc.specs.declared.shm_allocator.ShmAllocationError.{ShmAllocationError}
+use Rattle.cal_alloc.specs.declared.shm_allocator.ShmAllocationError.TheVariants.{ExceedsMaxSupportedAlignment, SizeTooLarge, OutOfMemory}
+
+-- its buckets, the greatest alignment that its memory gives, a mark for each bucket that says whether it's used, and
+-- whether `init` has answered Ok
+pub record Pool : Type 0 where
+  pub buckets : Buckets
+  pub memory_alignment : ℕ
+  pub used : List Bool
+  pub is_ready : Bool
+
+-- the buckets that memory of this size is cut into
+abbrev pub buckets_within : ℕ → SizeAndAlignment → Buckets
+buckets_within memory_size layout = record {
+  size = padded_size layout.size layout.alignment;
+  alignment = layout.alignment;
+  count = memory_size / padded_size layout.size layout.alignment;
+}
+
+-- memory of this size can be cut into such buckets: at most 2 ^ 56 bytes, buckets below 2 ^ 64 bytes, and fewer than
+-- 2 ^ 32 of them
+abbrev pub pool_fits : ℕ → SizeAndAlignment → Bool
+pool_fits memory_size layout =
+    nat_le memory_size (2 ^ 56) && (nat_lt (buckets_within memory_size layout).size (2 ^ 64) && nat_lt (buckets_within memory_size layout).count (2 ^ 32))
+
+-- a new pool: every bucket is free, and `init` is still to be called
+abbrev pub new_pool : ℕ → ℕ → SizeAndAlignment → Pool
+new_pool memory_alignment memory_size layout = record {
+  buckets = buckets_within memory_size layout;
+  memory_alignment = memory_alignment;
+  used = replicate (buckets_within memory_size layout).count false;
+  is_ready = false;
+}
+
+-- the bucket is used
+abbrev pub is_used : Pool → ℕ → Bool
+is_used pool bucket = slice_index_or pool.used bucket false
+
+-- how many buckets are used
+abbrev pub number_of_used : Pool → ℕ
+number_of_used pool = count_by (λ mark. mark) pool.used
+
+-- no bucket is free
+abbrev pub is_full : Pool → Bool
+is_full pool = list_all (λ mark. mark) pool.used
+
+-- the first byte of a bucket
+abbrev pub start_of : Pool → ℕ → ℕ
+start_of pool bucket = bucket * pool.buckets.size
+
+-- the bucket that a place lies in
+abbrev pub bucket_at : Pool → ℕ → ℕ
+bucket_at pool place = offset_of place / pool.buckets.size
+
+-- the pool, but this bucket marked as used or as free
+abbrev pub with_mark : Pool → ℕ → Bool → Pool
+with_mark pool bucket mark = record pool { used = slice_set pool.used bucket mark }
+
+-- why a pool refuses a layout, the first cause that holds; None where it serves it
+abbrev pub pool_refusal : Pool → SizeAndAlignment → Option ShmAllocationError
+pool_refusal pool layout =
+    if nat_lt pool.buckets.alignment layout.alignment then Some ExceedsMaxSupportedAlignment
+    else if nat_lt pool.buckets.size layout.size then Some SizeTooLarge
+    else if is_full pool then Some OutOfMemory
+    else None
+
+-- the new pool is the old one, but a bucket that was free is used: the one that starts at the place, in segment 0
+pub record GivesFreeBucket (old : Pool) (place : ℕ) (new : Pool) : Type 0 where
+  pub exists : bucket_at old place < old.buckets.count
+  pub was_free : is_used old (bucket_at old place) ≡ false
+  pub at_start : place ≡ pointer_offset (start_of old (bucket_at old place)) 0
+  pub after : new ≡ with_mark old (bucket_at old place) true
+
+-- the place is the start of a used bucket
+pub record IsUsedBucket (pool : Pool) (place : ℕ) : Type 0 where
+  pub at_start : offset_of place ≡ start_of pool (bucket_at pool place)
+  pub is_used : is_used pool (bucket_at pool place) ≡ true
+
+-- the pool, but the bucket that starts at the place free
+abbrev pub given_back : Pool → ℕ → Pool
+given_back pool place = with_mark pool (bucket_at pool place) false
