@@ -1,2 +1,5 @@
 //! Queues and used lists of one thread, and rings for two.
 #![tactic(auto)]
+
+mod bounded_queue;
+pub mod safely_overflowing_index_queue;
