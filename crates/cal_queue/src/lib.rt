@@ -2,4 +2,5 @@
 #![tactic(auto)]
 
 mod bounded_queue;
+pub mod index_queue;
 pub mod safely_overflowing_index_queue;
