@@ -4,3 +4,4 @@
 mod bounded_queue;
 pub mod index_queue;
 pub mod safely_overflowing_index_queue;
+pub mod used_chunk_list;
