@@ -1,6 +1,7 @@
 -- The calls that a walk over a used list still owes, from the lowest number up.
 use Rattle.std.proofs.Common.{◌≡◌, ℕ, suc, ◌+◌, ◌-◌, ◌<◌, ◌≤◌, Bool, true, false, cond, List, [], ◌∷◌, length, get_or, replicate, ap, sym, subst, refl, ◌∙◌, arith}
 use Rattle.std.proofs.lemmas.List.{same_lists, length-replicate, get_or-replicate, get_or_default}
+use Rattle.std.specs.Fn.{Mut, Called}
 use Rattle.std.specs.List.{FoldsTo, filter, range_with_len}
 use Rattle.cal_queue.specs.Callback.{MayRunOver, RunsOver}
 use Rattle.cal_queue.specs.UsedChunks.{contains, members}
@@ -27,46 +28,50 @@ members_from-start marks =
     let count : length marks ≡ length marks - 0 = omega arith in
     ap (λ (n : ℕ). filter (contains (record { marks = marks })) (range_with_len 0 n)) count
 
-module _ {F : Type 0} (pre : F → ℕ → Type 0) (step : F → ℕ → F → Type 0) (first : F) (marks : List Bool) where
+-- a call of the callback on a number
+abbrev CallsAt : {F : Type 0} → Mut F (ℕ × Unit {0}) (Unit {0}) → F → ℕ → F → Type 0
+CallsAt calls now x next = Called calls now (x, tt) tt next
+
+module _ {F : Type 0} (calls : Mut F (ℕ × Unit {0}) (Unit {0})) (first : F) (marks : List Bool) where
   -- a callback that began as `first` may be called at each member from `start` on, and these calls
   -- complete those at all members
   pub record IsOwed (f : F) (start : ℕ) : Type 0 where
-    pub callable : MayRunOver pre step f (members_from marks start)
-    pub completes : (last : F) → FoldsTo step f (members_from marks start) last
-        → FoldsTo step first (members (record { marks = marks })) last
+    pub callable : MayRunOver calls f (members_from marks start)
+    pub completes : (last : F) → FoldsTo (CallsAt calls) f (members_from marks start) last
+        → FoldsTo (CallsAt calls) first (members (record { marks = marks })) last
 
-module _ {F : Type 0} (pre : F → ℕ → Type 0) (step : F → ℕ → F → Type 0) (first : F) (marks : List Bool) where
-  pub IsOwed-at_start : MayRunOver pre step first (members (record { marks = marks })) → IsOwed pre step first marks first 0
+module _ {F : Type 0} (calls : Mut F (ℕ × Unit {0}) (Unit {0})) (first : F) (marks : List Bool) where
+  pub IsOwed-at_start : MayRunOver calls first (members (record { marks = marks })) → IsOwed calls first marks first 0
   IsOwed-at_start callable =
       let whole = members_from-start marks in record {
-        callable = subst (λ (xs : List ℕ). MayRunOver pre step first xs) whole callable;
-        completes = λ last. subst (λ (xs : List ℕ). FoldsTo step first xs last) (sym whole);
+        callable = subst (λ (xs : List ℕ). MayRunOver calls first xs) whole callable;
+        completes = λ last. subst (λ (xs : List ℕ). FoldsTo (CallsAt calls) first xs last) (sym whole);
       }
 
-  pub RunsOver-at_end : (f : F) (start : ℕ) → length marks ≤ start → IsOwed pre step first marks f start → RunsOver step first (members (record { marks = marks }))
+  pub RunsOver-at_end : (f : F) (start : ℕ) → length marks ≤ start → IsOwed calls first marks f start → RunsOver calls first (members (record { marks = marks }))
   RunsOver-at_end f start past owed =
       let none = sym (members_from-end marks start past) in
-      (f, owed.completes f (subst (λ (xs : List ℕ). FoldsTo step f xs f) none refl))
+      (f, owed.completes f (subst (λ (xs : List ℕ). FoldsTo (CallsAt calls) f xs f) none refl))
 
-  module _ (f : F) (start : ℕ) (below : start < length marks) (owed : IsOwed pre step first marks f start) where
-    pub pre-from_IsOwed : get_or marks start false ≡ true → pre f start
+  module _ (f : F) (start : ℕ) (below : start < length marks) (owed : IsOwed calls first marks f start) where
+    pub pre-from_IsOwed : get_or marks start false ≡ true → calls.pre f (start, tt)
     pre-from_IsOwed is =
-        let due = subst (λ (xs : List ℕ). MayRunOver pre step f xs) (members_from-next marks start true below is) owed.callable in
+        let due = subst (λ (xs : List ℕ). MayRunOver calls f xs) (members_from-next marks start true below is) owed.callable in
         due.0
 
-    pub IsOwed-called : (g : F) → get_or marks start false ≡ true → step f start g → IsOwed pre step first marks g (start + 1)
+    pub IsOwed-called : (g : F) → get_or marks start false ≡ true → CallsAt calls f start g → IsOwed calls first marks g (start + 1)
     IsOwed-called g is called =
         let next = members_from-next marks start true below is in
-        let due = subst (λ (xs : List ℕ). MayRunOver pre step f xs) next owed.callable in record {
+        let due = subst (λ (xs : List ℕ). MayRunOver calls f xs) next owed.callable in record {
           callable = due.1 g called;
-          completes = λ last ran. owed.completes last (subst (λ (xs : List ℕ). FoldsTo step f xs last) (sym next) (g, called, ran));
+          completes = λ last ran. owed.completes last (subst (λ (xs : List ℕ). FoldsTo (CallsAt calls) f xs last) (sym next) (g, called, ran));
         }
 
-    pub IsOwed-skipped : get_or marks start false ≡ false → IsOwed pre step first marks f (start + 1)
+    pub IsOwed-skipped : get_or marks start false ≡ false → IsOwed calls first marks f (start + 1)
     IsOwed-skipped is =
         let next = members_from-next marks start false below is in record {
-          callable = subst (λ (xs : List ℕ). MayRunOver pre step f xs) next owed.callable;
-          completes = λ last ran. owed.completes last (subst (λ (xs : List ℕ). FoldsTo step f xs last) (sym next) ran);
+          callable = subst (λ (xs : List ℕ). MayRunOver calls f xs) next owed.callable;
+          completes = λ last ran. owed.completes last (subst (λ (xs : List ℕ). FoldsTo (CallsAt calls) f xs last) (sym next) ran);
         }
 
 -- a list that holds one value at each place

@@ -10,7 +10,7 @@ pub loop-index-init : goal.loop-index-init
 loop-index-init g c = record {
   cleared = λ k below. absurd (omega arith);
   kept = λ k above. refl;
-  owed = IsOwed-at_start _ _ _ _ c.requires;
+  owed = IsOwed-at_start _ _ _ c.requires;
 }
 
 pub callback-requires : goal.callback-requires
@@ -31,8 +31,8 @@ loop-index-preserved g c =
           (let within : i < length c.loop-index.marks = omega arith in rw get_or-set_same c.replace.ensures.after);
       kept = λ k above. let other : k ≢ i = omega arith in rw get_or-set_other (so_far.kept k (omega arith));
       owed = elim c.if-replace.branch [
-        | then-replace w ↦ rw w.callback-is (IsOwed-called _ _ _ _ _ i (omega arith) so_far.owed _ (mark ∙ w.if-replace.true) w.callback.ensures)
-        | else-replace w ↦ rw w.callback-is (IsOwed-skipped _ _ _ _ _ i (omega arith) so_far.owed (mark ∙ w.if-replace.false))
+        | then-replace w ↦ rw w.callback-is (IsOwed-called _ _ _ _ i (omega arith) so_far.owed _ (mark ∙ w.if-replace.true) w.callback.ensures)
+        | else-replace w ↦ rw w.callback-is (IsOwed-skipped _ _ _ _ i (omega arith) so_far.owed (mark ∙ w.if-replace.false))
       ];
     }
 

@@ -7,5 +7,5 @@ abbrev pub invariant-loop-index : goal.invariant-loop-index
 invariant-loop-index g l = record {
   cleared : (k : ℕ) → k < l.index → get_or l.marks k false ≡ false;
   kept : (k : ℕ) → l.index ≤ k → get_or l.marks k false ≡ get_or l.initial.marks k false;
-  owed : IsOwed (goal.F-pre g) (λ f x f'. goal.F-step g f x tt f') l.fn.callback l.initial.marks l.callback l.index;
+  owed : IsOwed g.F.FnMut l.fn.callback l.initial.marks l.callback l.index;
 }
