@@ -1,2 +1,7 @@
 //! Queues and used lists of one thread, and rings for two.
 #![tactic(auto)]
+
+mod bounded_queue;
+pub mod index_queue;
+pub mod safely_overflowing_index_queue;
+pub mod used_chunk_list;
