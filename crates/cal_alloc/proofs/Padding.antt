@@ -4,7 +4,7 @@ use Rattle.std.specs.Int.{next_multiple_of, is_power_of_two}
 use Rattle.std.proofs.lemmas.Nat.{div-add-mod', mod_below, mod-mul-add}
 use Rattle.std.proofs.Math.Nat.{mod_self, mod-eq_of_lt, sub-zero}
 use Rattle.std.proofs.lemmas.Bool.{false≢true}
-use Rattle.cal_alloc.specs.Growth.{padded_size}
+use Rattle.cal_alloc.specs.Growth.{bucket_size_of}
 use lib.Count.{ones}
 
 -- a power of two isn't 0

@@ -2,7 +2,7 @@
 
 ghost use Rattle.std.specs.Prelude.{◌≡◌, ◌<◌, ◌^◌, true, not, IsTrue, IsFalse, SomeIff, position, refl};
 ghost use Rattle.std.proofs.Common.{ap};
-ghost use Rattle.cal_alloc.specs.Growth.{padded_size};
+ghost use Rattle.cal_alloc.specs.Growth.{bucket_size_of};
 ghost use Rattle.cal_alloc.specs.Pool.{Pool, pool_fits, buckets_within, new_pool, is_full, number_of_used, pool_refusal, GivesFreeBucket, IsUsedBucket, given_back};
 
 use crate::layout::{Layout, checked_next_multiple_of};
@@ -20,7 +20,7 @@ const MAX_NUMBER_OF_BUCKETS: usize = (1 << 32) - 1;
 
 /// The size of a bucket for that layout: at least one byte, rounded up to the alignment; `None` from 2^64 on.
 fn bucket_size(layout: Layout) -> Option<usize>
-    ensures { SomeIff result (padded_size layout.size layout.alignment < 2 ^ 64) (padded_size layout.size layout.alignment) }
+    ensures { SomeIff result (bucket_size_of layout.size layout.alignment < 2 ^ 64) (bucket_size_of layout.size layout.alignment) }
 {
     checked_next_multiple_of(layout.size().max(1), layout.align())
 }

@@ -1,5 +1,5 @@
 -- The chunk ledger: what was ever loaned, sent, received, given back and reclaimed, and what follows from it.
-use Rattle.std.specs.Prelude.{ℕ, zero, suc, ◌+◌, ◌-◌, Bool, true, false, not, ◌&&◌, ◌||◌, ◌==◌, nat_lt, if◌then◌else◌, List, [], ◌∷◌, ◌++◌, length, drop, filter, find, replicate, slice_index_or, Option, None, option_to_list}
+use Rattle.std.specs.Prelude.{ℕ, zero, suc, ◌+◌, ◌-◌, Bool, true, false, not, ◌&&◌, ◌||◌, ◌==◌, nat_lt, if◌then◌else◌, List, [], ◌∷◌, ◌++◌, length, drop, filter, find, replicate, slice_index_or, Option, Some, None, option_to_list}
 use Rattle.std.specs.List.{list_any}
 use Rattle.cal_alloc.specs.Growth.{Buckets}
 use Rattle.cal_transport.specs.declared.settings.Settings.{Settings}
@@ -107,9 +107,14 @@ current l = length l.segments - 1
 abbrev pub chunk_named : Ledger → ℕ → Option Chunk
 chunk_named l name = find (λ chunk. chunk.name == name) l.chunks
 
+-- the chunk, where it is loaned
+abbrev pub if_loaned : Option Chunk → Option Chunk
+if_loaned None = None
+if_loaned (Some chunk) = if chunk.loaned then Some chunk else None
+
 -- the chunk of that name, where it is loaned
 abbrev pub loaned_chunk : Ledger → ℕ → Option Chunk
-loaned_chunk l name = find (λ chunk. chunk.name == name && chunk.loaned) l.chunks
+loaned_chunk l name = if_loaned (chunk_named l name)
 
 -- the chunk is loaned, or in transit on some channel
 abbrev pub is_live : Ledger → Chunk → Bool

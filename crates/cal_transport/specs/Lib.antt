@@ -4,5 +4,6 @@ pub mod Settings
 pub mod Ledger
 pub mod Cause
 pub mod Step
+pub mod Parts
 pub mod Run
 pub mod Examples

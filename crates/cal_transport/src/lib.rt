@@ -3,6 +3,7 @@
 
 mod bytes;
 mod command;
+mod entry;
 pub mod examples;
 mod replies;
 mod reply;
