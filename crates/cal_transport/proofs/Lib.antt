@@ -1,1 +1,4 @@
+pub mod Lists
+pub mod Lookup
 pub mod Names
+pub mod Update

@@ -4,6 +4,7 @@ pub mod Settings
 pub mod Ledger
 pub mod Cause
 pub mod Step
+pub mod Entry
 pub mod Parts
 pub mod Run
 pub mod Examples

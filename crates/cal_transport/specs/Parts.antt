@@ -10,6 +10,7 @@ use Rattle.cal_transport.specs.declared.entry.Entry.{Entry}
 use Rattle.cal_transport.specs.declared.command.Command.{Command}
 use Rattle.cal_transport.specs.declared.reply.Reply.{Reply}
 use Rattle.cal_transport.specs.Settings.{completion_size}
+use Rattle.cal_transport.specs.Entry.{AreRising}
 use Rattle.cal_transport.specs.Ledger.{Ledger, Chunk, Channel, received, occurrences, queued, completed, is_borrowed, borrow_count, is_in_transit}
 use Rattle.cal_transport.specs.Cause.{is_static}
 use Rattle.cal_transport.specs.Step.{Answers, after}
@@ -140,11 +141,6 @@ pub record IsReady (p : Parts) : Type 0 where
   pub used : capacity_of p.used ≡ p.settings.samples
   pub submissions : p.submissions.capacity ≡ p.settings.buffer
   pub completions : p.completions.capacity ≡ completion_size p.settings
-
--- later chunks have greater names
-abbrev pub AreRising : List Entry → Type 0
-AreRising entries = (i j : ℕ) (first second : Entry) →
-  slice_get entries i ≡ Some first → slice_get entries j ≡ Some second → i < j → first.name < second.name
 
 -- the parts show these chunks and this channel
 pub record Show (p : Parts) (w : Shown) : Type 0 where

@@ -5,6 +5,7 @@ mod bytes;
 mod command;
 mod entry;
 pub mod examples;
+mod memory;
 mod replies;
 mod reply;
 mod run;
