@@ -44,3 +44,9 @@ map-set_agree f g (x ∷ xs) (suc i) y agree =
 pub map_agree : {A B : Type 0} (f g : A → B) (xs : List A) → ((x : A) → f x ≡ g x) → map f xs ≡ map g xs
 map_agree f g [] agree = refl
 map_agree f g (x ∷ xs) agree = let first = agree x in let rest = map_agree f g xs agree in cc
+
+-- to write what stands there changes nothing
+pub set_there : {A : Type 0} (xs : List A) (i : ℕ) (x : A) → slice_get xs i ≡ Some x → set xs i x ≡ xs
+set_there [] i x e = refl
+set_there (y ∷ xs) zero x e = ap (λ z. z ∷ xs) (sym (same_Some y x e))
+set_there (y ∷ xs) (suc i) x e = ap (λ rest. y ∷ rest) (set_there xs i x e)

@@ -54,7 +54,7 @@ pub record Changes (p p' : Parts) (w : Shown) (i : ℕ) (old new : Chunk) (c : C
   pub other_uses : (bucket : ℕ) → bucket ≢ old.bucket → contains p'.used bucket ≡ contains p.used bucket
   pub use_of : old.bucket < p.settings.samples → contains p'.used old.bucket ≡ is_in_transit c old.name
   pub no_use : lives c new ≡ false → contains p'.used old.bucket ≡ false
-  pub other_bytes : (bucket : ℕ) → bucket ≢ old.bucket →
+  pub other_bytes : (bucket : ℕ) → bucket ≢ old.bucket → bucket < p.pool.buckets.count →
     bytes_at p'.memory (bucket * p.pool.buckets.size) p.pool.buckets.size ≡ bytes_at p.memory (bucket * p.pool.buckets.size) p.pool.buckets.size
   pub bytes : bytes_at p'.memory (old.bucket * p.pool.buckets.size) p.pool.buckets.size ≡ new.bytes
   pub submissions : p'.submissions.values ≡ map (pointer_to p.pool.buckets.size w.chunks) (queued c)
@@ -163,7 +163,7 @@ housed_else p p' w i old new c t j chunk apart e alive =
     record {
       marked = t.change.other_marks chunk.bucket there ∙ before.marked;
       owner = ap (λ owners. slice_get owners chunk.bucket) t.change.owners ∙ before.owner;
-      bytes = ap (λ b. bytes_at p'.memory (chunk.bucket * b.size) b.size) t.change.buckets ∙ t.change.other_bytes chunk.bucket there ∙ before.bytes;
+      bytes = ap (λ b. bytes_at p'.memory (chunk.bucket * b.size) b.size) t.change.buckets ∙ t.change.other_bytes chunk.bucket there (t.show.placed j chunk e).bucket ∙ before.bytes;
       in_use = λ within. t.change.other_uses chunk.bucket there
         ∙ before.in_use (let s = ap (λ x. x.samples) t.change.settings in omega arith)
         ∙ is_in_transit-weight w.channel chunk.name ∙ ap (nat_lt 0) (sym same_weight) ∙ sym (is_in_transit-weight c chunk.name);
@@ -265,3 +265,21 @@ shows_changed p p' w i old new c shown h here alive change =
       unused = unused_then p p' w i old new c t;
       known = known_then p p' w i old new c shown t;
     }
+
+-- ---- what the commands ask of a chunk
+
+pub loaned_lives : (c : Channel) (chunk : Chunk) → chunk.loaned ≡ true → lives c chunk ≡ true
+loaned_lives c chunk loaned = ap (λ b. b || is_in_transit c chunk.name) loaned
+
+pub transit_lives : (c : Channel) (chunk : Chunk) → 0 < weight c chunk.name → lives c chunk ≡ true
+transit_lives c chunk weighs = rw (is_in_transit-weight c chunk.name) (grind (arith, nat_tests))
+
+-- a chunk in transit has a bucket that the connection can name
+pub bucket_within : (p : Parts) (w : Shown) (i : ℕ) (chunk : Chunk) → Show p w → slice_get w.chunks i ≡ Some chunk →
+  0 < weight w.channel chunk.name → chunk.bucket < p.settings.samples
+bucket_within p w i chunk h stands weighs =
+    let k = h.known chunk.name weighs in
+    elim (same_or_apart k.index i) [
+        inl same ↦ (let e = same_Some k.chunk chunk (sym k.stands ∙ ap (slice_get w.chunks) same ∙ stands) in
+          let b = ap (λ x. x.bucket) e in let within = k.within in omega arith)
+      | inr apart ↦ absurd (names_apart p w k.index i k.chunk chunk h k.stands stands apart k.same_name) ]

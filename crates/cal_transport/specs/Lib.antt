@@ -6,5 +6,7 @@ pub mod Cause
 pub mod Step
 pub mod Entry
 pub mod Parts
+pub mod PartsOf
+pub mod Rules
 pub mod Run
 pub mod Examples

@@ -10,6 +10,7 @@ mod replies;
 mod reply;
 mod run;
 mod settings;
+mod transport;
 
 pub use bytes::Bytes;
 pub use command::Command;
