@@ -1,6 +1,9 @@
+pub mod Changing
 pub mod Lists
 pub mod Lookup
 pub mod Names
+pub mod Receiving
+pub mod Sending
 pub mod Steps
 pub mod Update
 pub mod Writes

@@ -104,7 +104,9 @@ written_changes p w i chunk at bytes h stands loaned within =
         owners = h.ready.owners;
         used = h.ready.used;
         submissions = h.ready.submissions;
+        submissions_fit = h.ready.submissions_fit;
         completions = h.ready.completions;
+        completions_fit = h.ready.completions_fit;
       };
       entries = sym (set_there p.entries i (entry_of w.channel chunk) (entry_at p w i chunk h stands));
       other_marks = λ bucket apart. refl;

@@ -140,7 +140,9 @@ pub record IsReady (p : Parts) : Type 0 where
   pub owners : length p.owners ≡ p.pool.buckets.count
   pub used : capacity_of p.used ≡ p.settings.samples
   pub submissions : p.submissions.capacity ≡ p.settings.buffer
+  pub submissions_fit : length p.submissions.values ≤ p.submissions.capacity
   pub completions : p.completions.capacity ≡ completion_size p.settings
+  pub completions_fit : length p.completions.values ≤ p.completions.capacity
 
 -- the parts show these chunks and this channel
 pub record Show (p : Parts) (w : Shown) : Type 0 where
