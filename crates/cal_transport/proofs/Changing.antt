@@ -1,5 +1,5 @@
 -- What several commands' proofs share: a bucket's pointer, marks of the pool and of the used list, and tests.
-use Rattle.std.proofs.Common.{ℕ, zero, suc, ◌+◌, ◌-◌, ◌*◌, ◌/◌, ◌%◌, ◌<◌, ◌≤◌, ◌≡◌, ◌≢◌, inl, inr, Bool, true, false, cond, nat_eq, nat_lt, nat_le, List, [], ◌∷◌, ◌++◌, length, map, set, get_or, drop, Option, Some, None, refl, sym, ap, ◌∙◌, subst, arith}
+use Rattle.std.proofs.Common.{ℕ, zero, suc, ◌+◌, ◌-◌, ◌*◌, ◌/◌, ◌%◌, ◌<◌, ◌≤◌, ◌≡◌, ◌≢◌, inl, inr, Bool, true, false, cond, not, nat_eq, nat_lt, nat_le, List, [], ◌∷◌, ◌++◌, length, map, set, get_or, drop, Option, Some, None, refl, sym, ap, ◌∙◌, subst, arith}
 use Rattle.std.specs.List.{slice_get}
 pub use Rattle.std.proofs.Math.Nat.{mul-div_cancel}
 use Rattle.std.proofs.lemmas.List.{get_or-set_same, get_or-set_other, length-set}
@@ -19,6 +19,14 @@ le_false a b h = grind (arith, nat_tests)
 
 pub le_when : (a b : ℕ) → nat_le a b ≡ false → b < a
 le_when a b h = grind (arith, nat_tests)
+
+pub not_true : (b : Bool) → not b ≡ true → b ≡ false
+not_true true e = sym e
+not_true false e = refl
+
+pub not_false : (b : Bool) → not b ≡ false → b ≡ true
+not_false true e = refl
+not_false false e = sym e
 
 -- ---- marks
 
@@ -76,3 +84,27 @@ bucket_named-at (x ∷ chunks) (suc i) chunk e apart = elim (eqb_tells x.name ch
     inl same ↦ absurd (apart 0 x refl (λ q. absurd (omega arith)) same.1)
   | inr other ↦ ap (λ b. cond b x.bucket (bucket_named chunks chunk.name)) other.0
       ∙ bucket_named-at chunks i chunk e (λ j y stands elsewhere. apart (suc j) y stands (λ q. elsewhere (omega arith))) ]
+
+-- ---- a pool that keeps a bucket or takes it back
+
+-- one bucket's mark is as told, and nothing else of the pool has changed
+pub record HasMark (old new : Pool) (bucket : ℕ) (mark : Bool) : Type 0 where
+  pub ready : new.is_ready ≡ old.is_ready
+  pub buckets : new.buckets ≡ old.buckets
+  pub long : length new.used ≡ length old.used
+  pub here : is_used new bucket ≡ mark
+  pub else : (other : ℕ) → other ≢ bucket → is_used new other ≡ is_used old other
+
+pub kept_or_freed : (pool : Pool) (bucket value : ℕ) (kept : Bool) → 1 ≤ pool.buckets.size → bucket < length pool.used →
+  is_used pool bucket ≡ true → value ≡ pointer_offset (bucket * pool.buckets.size) 0 →
+  HasMark pool (cond kept pool (given_back pool value)) bucket kept
+kept_or_freed pool bucket value true size within used e = record { ready = refl; buckets = refl; long = refl; here = used; else = λ other apart. refl }
+kept_or_freed pool bucket value false size within used e =
+    let freed : given_back pool value ≡ with_mark pool bucket false = ap (given_back pool) e ∙ given_back-pointer pool bucket size in
+    record {
+      ready = refl;
+      buckets = refl;
+      long = length-set pool.used (bucket_at pool value) false;
+      here = ap (λ q. is_used q bucket) freed ∙ mark_here pool bucket false within;
+      else = λ other apart. ap (λ q. is_used q other) freed ∙ mark_else pool bucket other false apart;
+    }

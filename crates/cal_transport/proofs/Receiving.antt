@@ -253,3 +253,23 @@ received_none p channel rule first place =
           ∙ ap (λ l. record (ledger_of p w) { channels = record w.channel { left = l } ∷ [] }) (append-nil w.channel.left);
         show = h;
       }))
+
+-- the same, as the code has it: by what each call answered and left
+pub received_by : (p : Parts) (channel value index bucket at : ℕ) (entry : Entry) (submissions : Queue) → None ≡ receive_rule p channel →
+  Some value ≡ oldest p.submissions → bucket ≡ offset_of value / p.pool.buckets.size →
+  slice_get p.owners bucket ≡ Some index → slice_get p.entries index ≡ Some entry → at ≡ offset_of value → submissions ≡ popped p.submissions →
+  DoesAnywhere p (command.Receive channel) (Received (Some (record { chunk = entry.name; segment = 0; place = at })))
+    (record (received_parts p index entry) { submissions = submissions })
+received_by p channel value index bucket at entry submissions rule first there owner stands placed left place =
+    let Q : ℕ → Queue → Type 0 = λ a q. Does p place (command.Receive channel) (Received (Some (record { chunk = entry.name; segment = 0; place = a })))
+      (record (received_parts p index entry) { submissions = q }) in
+    subst (λ a. Q a submissions) (sym placed) (subst (Q (offset_of value)) (sym left)
+      (received_some p channel value index bucket entry (sym rule) (sym first) there owner stands place))
+
+-- what the code asks of the pointer that the queue gives
+pub receive_leads : (p : Parts) (w : Shown) (value bucket : ℕ) → Show p w → Some value ≡ oldest p.submissions → bucket ≡ offset_of value / p.pool.buckets.size →
+  LeadsToEntry p.entries p.owners bucket
+receive_leads p w value bucket h first there =
+    let g = submission_front p w value h (sym first) in
+    subst (LeadsToEntry p.entries p.owners) (sym (there ∙ pointed_bucket p w (queued w.channel) g.0 value p.pool.buckets.size h g.1 refl))
+      (leads p w (queued w.channel) g.0 value h g.1)

@@ -220,3 +220,15 @@ sent p channel name found is rule place = done p (sent_parts p found.index found
         (sent_on w.channel c.chunk.name None) w.shown h c.stands (loaned_lives w.channel c.chunk mayc.loaned)
         (sent_changes p w found.index c.chunk channel h c.stands mayc)));
   })
+
+-- the same, as the code has it: by what each call left
+pub sent_by : (p : Parts) (channel name : ℕ) (found : Found) (value : ℕ) (submissions : Queue) (used : UsedChunks) → IsFound p.entries name found →
+  None ≡ send_rule p channel found.entry → value ≡ pointer_offset (found.entry.bucket * p.pool.buckets.size) 0 →
+  submissions ≡ pushed (with_room p.submissions) value → used ≡ inserted p.used found.entry.bucket →
+  DoesAnywhere p (command.Send channel name) (Sent None) (record (sent_parts p found.index found.entry) { submissions = submissions; used = used })
+sent_by p channel name found value submissions used is rule pointer left marked place =
+    let Q : Queue → UsedChunks → Type 0 = λ q u. Does p place (command.Send channel name) (Sent None)
+      (record (sent_parts p found.index found.entry) { submissions = q; used = u }) in
+    subst (λ q. Q q used) (sym (left ∙ ap (pushed (with_room p.submissions)) pointer))
+      (subst (Q (pushed (with_room p.submissions) (pointer_offset (found.entry.bucket * p.pool.buckets.size) 0))) (sym marked)
+        (sent p channel name found is (sym rule) place))
