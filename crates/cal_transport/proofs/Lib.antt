@@ -1,8 +1,11 @@
+pub mod Buckets
 pub mod Changing
 pub mod Discarding
 pub mod Lists
+pub mod Loaning
 pub mod Lookup
 pub mod Names
+pub mod Opening
 pub mod Reading
 pub mod Receiving
 pub mod Reclaiming

@@ -50,3 +50,21 @@ pub set_there : {A : Type 0} (xs : List A) (i : ℕ) (x : A) → slice_get xs i 
 set_there [] i x e = refl
 set_there (y ∷ xs) zero x e = ap (λ z. z ∷ xs) (sym (same_Some y x e))
 set_there (y ∷ xs) (suc i) x e = ap (λ rest. y ∷ rest) (set_there xs i x e)
+
+-- ---- a list that has grown by one
+
+pub slice_get-append_old : {A : Type 0} (xs : List A) (y : A) (i : ℕ) (x : A) → slice_get xs i ≡ Some x → slice_get (xs ++ y ∷ []) i ≡ Some x
+slice_get-append_old [] y i x e = cc
+slice_get-append_old (z ∷ xs) y zero x e = e
+slice_get-append_old (z ∷ xs) y (suc i) x e = slice_get-append_old xs y i x e
+
+pub slice_get-append_new : {A : Type 0} (xs : List A) (y : A) → slice_get (xs ++ y ∷ []) (length xs) ≡ Some y
+slice_get-append_new [] y = refl
+slice_get-append_new (z ∷ xs) y = slice_get-append_new xs y
+
+pub old_or_new : {A : Type 0} (xs : List A) (y : A) (i : ℕ) (x : A) → slice_get (xs ++ y ∷ []) i ≡ Some x →
+  (slice_get xs i ≡ Some x) ⊎ ((i ≡ length xs) × (x ≡ y))
+old_or_new [] y zero x e = inr (refl, sym (same_Some y x e))
+old_or_new [] y (suc i) x e = cc
+old_or_new (z ∷ xs) y zero x e = inl e
+old_or_new (z ∷ xs) y (suc i) x e = elim (old_or_new xs y i x e) [ inl old ↦ inl old | inr new ↦ inr (ap suc new.0, new.1) ]

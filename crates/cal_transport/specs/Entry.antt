@@ -22,3 +22,7 @@ pub record LeadsToEntry (entries : List Entry) (owners : List ℕ) (bucket : ℕ
   pub entry : Entry
   pub owner : slice_get owners bucket ≡ Some index
   pub stands : slice_get entries index ≡ Some entry
+
+-- each record has a smaller name
+abbrev pub AreBelow : List Entry → ℕ → Type 0
+AreBelow entries name = (i : ℕ) (entry : Entry) → slice_get entries i ≡ Some entry → entry.name < name

@@ -4,9 +4,11 @@ pub mod Settings
 pub mod Ledger
 pub mod Cause
 pub mod Step
+pub mod Built
 pub mod Entry
 pub mod Parts
 pub mod PartsOf
 pub mod Rules
+pub mod Transit
 pub mod Run
 pub mod Examples

@@ -1,5 +1,5 @@
 -- What a transport is made of, and when its parts show a ledger.
-use Rattle.std.specs.Prelude.{ℕ, zero, ◌+◌, ◌-◌, ◌*◌, ◌^◌, ◌<◌, ◌≤◌, ◌≡◌, Bool, true, false, not, ◌&&◌, ◌||◌, ◌==◌, nat_lt, nat_le, IsTrue, if◌then◌else◌, length, take, drop, map, List, [], ◌∷◌, ◌++◌, Option, Some, None, slice_get}
+use Rattle.std.specs.Prelude.{ℕ, zero, ◌+◌, ◌-◌, ◌*◌, ◌^◌, ◌<◌, ◌≤◌, ◌≡◌, Bool, true, false, not, ◌&&◌, ◌||◌, ◌==◌, nat_lt, nat_le, IsTrue, if◌then◌else◌, length, take, drop, map, replicate, List, [], ◌∷◌, ◌++◌, Option, Some, None, slice_get}
 use Rattle.cal_alloc.specs.Growth.{Buckets}
 use Rattle.cal_alloc.specs.Pool.{Pool, is_used}
 use Rattle.cal_alloc.specs.PointerOffset.{pointer_offset}
@@ -9,7 +9,7 @@ use Rattle.cal_transport.specs.declared.settings.Settings.{Settings}
 use Rattle.cal_transport.specs.declared.entry.Entry.{Entry}
 use Rattle.cal_transport.specs.declared.command.Command.{Command}
 use Rattle.cal_transport.specs.declared.reply.Reply.{Reply}
-use Rattle.cal_transport.specs.Settings.{completion_size}
+use Rattle.cal_transport.specs.Settings.{first_buckets, completion_size}
 use Rattle.cal_transport.specs.Entry.{AreRising}
 use Rattle.cal_transport.specs.Ledger.{Ledger, Chunk, Channel, received, occurrences, queued, completed, is_borrowed, borrow_count, is_in_transit}
 use Rattle.cal_transport.specs.Cause.{is_static}
@@ -160,6 +160,15 @@ pub record Show (p : Parts) (w : Shown) : Type 0 where
   pub occupied : (bucket : ℕ) → is_used p.pool bucket ≡ true → IsOccupied w bucket
   pub unused : (bucket : ℕ) → is_used p.pool bucket ≡ false → contains p.used bucket ≡ false
   pub known : (name : ℕ) → 0 < weight w.channel name → IsKnown p w name
+
+-- the pool of a new transport: every bucket is free
+abbrev pub first_pool : Settings → Pool
+first_pool s = record {
+  buckets = first_buckets s;
+  memory_alignment = 4096;
+  used = replicate s.count false;
+  is_ready = true;
+}
 
 -- a transport stands for a ledger: its parts show it
 pub record StandsFor (p : Parts) (l : Ledger) : Type 0 where

@@ -1,12 +1,15 @@
 -- The rules of refusal, over the parts of a transport and a chunk's entry, and what each command does by its answer.
 use Rattle.std.specs.Prelude.{ℕ, ◌+◌, ◌≡◌, Bool, true, false, not, ◌&&◌, ◌||◌, nat_lt, nat_le, if◌then◌else◌, length, List, Option, Some, None, Result, Ok, Err}
+use Rattle.cal_alloc.specs.declared.shm_allocator.ShmAllocationError.{ShmAllocationError}
+use Rattle.cal_alloc.specs.declared.shm_allocator.ShmAllocationError.TheVariants.{ExceedsMaxSupportedAlignment, SizeTooLarge, OutOfMemory, SizeIsZero}
+use Rattle.cal_transport.specs.declared.reply.Refusal.TheVariants as refusal
 use Rattle.cal_queue.specs.Queue.{is_full}
 use Rattle.cal_queue.specs.UsedChunks.{contains}
 use Rattle.cal_transport.specs.declared.entry.Entry.{Entry}
 use Rattle.cal_transport.specs.declared.command.Command.{Command}
 use Rattle.cal_transport.specs.declared.command.Command.TheVariants as command
 use Rattle.cal_transport.specs.declared.reply.Reply.{Reply}
-use Rattle.cal_transport.specs.declared.reply.Reply.TheVariants.{Written, Sent, Received, Shown, Released, Reclaimed, Discarded, Refused}
+use Rattle.cal_transport.specs.declared.reply.Reply.TheVariants.{Loaned, Written, Sent, Received, Shown, Released, Reclaimed, Discarded, Refused}
 use Rattle.cal_transport.specs.declared.reply.Slot.{Slot}
 use Rattle.std.specs.Borrow.{Bor}
 use Rattle.cal_transport.specs.declared.reply.Refusal.{Refusal}
@@ -50,7 +53,28 @@ release_rule p entry =
   else if is_full p.completions then Some RetrieveBufferFull
   else None
 
+-- ---- a static memory's refusals
+
+-- a pool gives these, and no other
+abbrev pub IsPools : ShmAllocationError → Type 0
+IsPools ExceedsMaxSupportedAlignment = Unit {0}
+IsPools SizeTooLarge = Unit {0}
+IsPools OutOfMemory = Unit {0}
+IsPools SizeIsZero = ⊥
+
+-- the refusal of the same name
+abbrev pub refusal_of : ShmAllocationError → Refusal
+refusal_of ExceedsMaxSupportedAlignment = refusal.ExceedsMaxSupportedAlignment
+refusal_of SizeTooLarge = refusal.SizeTooLarge
+refusal_of OutOfMemory = refusal.OutOfMemory
+refusal_of SizeIsZero = refusal.InternalError
+
 -- ---- what the commands do, by their answers
+
+-- the loan's place in the list names the chunk
+abbrev pub LoanDoes : Parts → ℕ → ℕ → ℕ → Result Slot Refusal → Parts → Type 0
+LoanDoes old name size alignment (Ok slot) new = Does old name (command.Loan size alignment) (Loaned slot) new
+LoanDoes old name size alignment (Err cause) new = Does old name (command.Loan size alignment) (Refused cause) new
 
 -- whatever its place in the list, the reply answers the command
 abbrev pub DoesAnywhere : Parts → Command → Reply → Parts → Type 0

@@ -9,6 +9,7 @@ use Rattle.cal_transport.specs.declared.reply.Reply.TheVariants.{Transit}
 use Rattle.cal_transport.specs.declared.run.RunError.{RunError}
 use Rattle.cal_transport.specs.declared.run.RunError.TheVariants.{Create, NoMemory, NotBuilt}
 use Rattle.cal_transport.specs.Settings.{create_cause}
+use Rattle.cal_transport.specs.Built.{is_built}
 use Rattle.cal_transport.specs.Ledger.{Ledger, Chunk, first_ledger, channel_at, buckets_at, numbers_below, is_in_transit}
 use Rattle.cal_transport.specs.Cause.{cause, needs_segment, is_static}
 use Rattle.cal_transport.specs.Step.{Answers, after, slot_of}
@@ -77,9 +78,6 @@ StopsForMemory settings commands (reply ∷ replies) =
     StopsAt TakesMemory (first_ledger settings) 1 commands (reply ∷ replies)
 
 -- ---- what isn't built yet: memory that grows, overflow, several channels, and counting
-
-abbrev pub is_built : Settings → Bool
-is_built settings = is_static settings.strategy && not settings.overflow && nat_le settings.channels 1
 
 abbrev pub IsCount : Ledger → Command → Type 0
 IsCount l asked = asked ≡ command.Count

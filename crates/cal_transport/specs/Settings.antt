@@ -1,5 +1,5 @@
 -- Settings as they count, and why a transport can't be made with them.
-use Rattle.std.specs.Prelude.{ℕ, ◌+◌, ◌*◌, ◌^◌, max, Bool, true, not, ◌||◌, ◌==◌, nat_lt, nat_le, if◌then◌else◌, Option, Some, None}
+use Rattle.std.specs.Prelude.{ℕ, ◌+◌, ◌*◌, ◌^◌, ◌<◌, ◌≤◌, ◌≡◌, max, Bool, true, not, ◌||◌, ◌==◌, nat_lt, nat_le, if◌then◌else◌, Option, Some, None}
 use Rattle.std.specs.Int.{is_power_of_two}
 use Rattle.cal_alloc.specs.Growth.{Buckets, padded_size}
 use Rattle.cal_transport.specs.declared.settings.Settings.{Settings}
@@ -45,3 +45,14 @@ create_cause s =
     else if payload (first_buckets s) == 0 then Some SizeIsZero
     else if nat_lt 4096 s.alignment then Some InternalError
     else None
+
+-- what the settings have that a transport can be made with
+pub record CanMake (s : Settings) : Type 0 where
+  pub alignment : is_power_of_two s.alignment ≡ true
+  pub aligned : 1 ≤ s.alignment
+  pub supported : s.alignment ≤ 4096
+  pub size : 1 ≤ s.size
+  pub count : 1 ≤ s.count
+  pub few : s.count < 2 ^ 32
+  pub payload : payload (first_buckets s) ≤ 2 ^ 56
+  pub completions : completion_size (clamped s) < 2 ^ 63

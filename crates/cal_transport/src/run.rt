@@ -2,7 +2,8 @@
 
 ghost use Rattle.std.specs.Prelude.{◌≡◌, OnOk, IfOk, IfErr, None, Some, Err, IsTrue};
 ghost use Rattle.cal_transport.specs.Settings.{create_cause};
-ghost use Rattle.cal_transport.specs.Run.{IsRun, HasError, is_built};
+ghost use Rattle.cal_transport.specs.Built.{is_built};
+ghost use Rattle.cal_transport.specs.Run.{IsRun, HasError};
 
 use crate::command::Command;
 use crate::replies::Replies;

@@ -1,7 +1,7 @@
 //! What a transport is made with, and why it may not be made.
 
 ghost use Rattle.std.specs.Prelude.{◌≡◌, ◌<◌, ◌^◌, ◌||◌, ◌==◌};
-ghost use Rattle.cal_transport.specs.Settings.{clamped, create_cause, first_buckets, payload, is_too_large, has_too_large_connection};
+ghost use Rattle.cal_transport.specs.Settings.{clamped, create_cause, first_buckets, payload, completion_size, CanMake, is_too_large, has_too_large_connection};
 
 use cal_alloc::AllocationStrategy;
 
@@ -77,6 +77,22 @@ impl Settings {
         } else {
             None
         }
+    }
+
+    /// The bytes of the first segment.
+    pub(crate) fn payload(&self) -> usize
+        requires made { CanMake self.now }
+        ensures value { result ≡ payload (first_buckets self.now) }
+    {
+        self.bucket_size() as usize * self.count
+    }
+
+    /// How many chunks the completion queue of a channel holds.
+    pub(crate) fn completion_size(&self) -> usize
+        requires fits { completion_size self.now < 2 ^ 63 }
+        ensures value { result ≡ completion_size self.now }
+    {
+        self.buffer + self.borrow + 1
     }
 
     fn is_too_large(&self) -> bool

@@ -1,17 +1,24 @@
 //! A transport: one memory of buckets, one channel, and the records that tie both to chunk names. Every command is a
 //! step of the ledger that the transport stands for, whichever free bucket a loan took.
 
-ghost use Rattle.std.specs.Prelude.{◌≡◌, ◌<◌, ◌≤◌, ◌+◌, IfOk, None, true};
+ghost use Rattle.std.specs.Prelude.{◌≡◌, ◌≤◌, [], IfOk, None, IsTrue};
+ghost use Rattle.cal_transport.specs.Settings.{CanMake, create_cause, first_buckets, payload};
+ghost use Rattle.cal_transport.specs.Ledger.{first_ledger};
+ghost use Rattle.cal_transport.specs.Parts.{StandsFor, first_pool};
+ghost use Rattle.cal_transport.specs.Built.{is_built};
 
 mod receiver;
 mod sender;
+mod transit;
 
 use crate::entry::Entry;
 use crate::settings::Settings;
-use cal_alloc::PoolAllocator;
+use cal_alloc::pool_allocator::Config;
+use cal_alloc::{Layout, PoolAllocator, ShmAllocator};
 use cal_queue::index_queue::IndexQueue;
 use cal_queue::safely_overflowing_index_queue::SafelyOverflowingIndexQueue;
 use cal_queue::used_chunk_list::UsedChunkList;
+use std::alloc::{AllocError, Global};
 use std::marker::Model;
 
 /// One segment of memory, and one channel from a sender to a receiver.
@@ -43,4 +50,61 @@ impl Model for Transport {
     ghost view = { parts_of };
 
     ghost invariant = { IsSound };
+}
+
+/// The greatest alignment that a segment's memory supports, in bytes.
+const MAX_ALIGNMENT: usize = 4096;
+
+impl Transport {
+    /// A transport in which nothing has happened yet, with room for this many loans. All its memory is taken here.
+    pub(crate) fn open(
+        alloc: Global,
+        settings: &Settings,
+        loans: usize,
+    ) -> Result<Transport, AllocError>
+        requires made { create_cause settings.now ≡ None }
+        requires built { IsTrue (is_built settings.now) }
+        ensures first { IfOk result (λ transport. StandsFor transport (first_ledger settings.now)) }
+        ensures room { IfOk result (λ transport. loans ≤ transport.room) }
+        ensures unnamed { IfOk result (λ transport. transport.entries ≡ []) }
+    {
+        let settings = settings.clamped();
+        let payload = settings.payload();
+        let pool = ready_pool(alloc, &settings, payload)?;
+        let memory = vec![in alloc; 0; payload]?;
+        let submissions = SafelyOverflowingIndexQueue::new(alloc, settings.buffer)?;
+        let completions = IndexQueue::new(alloc, settings.completion_size())?;
+        let used = UsedChunkList::new(alloc, settings.samples)?;
+        let entries = Vec::with_capacity(alloc, loans)?;
+        let owners = vec![in alloc; 0; settings.count]?;
+        Ok(Transport {
+            settings,
+            pool,
+            memory,
+            submissions,
+            completions,
+            used,
+            borrowed: 0,
+            entries,
+            owners,
+        })
+    }
+}
+
+/// A pool of buckets for the settings' chunks that is ready to serve.
+fn ready_pool(
+    alloc: Global,
+    settings: &Settings,
+    memory_size: usize,
+) -> Result<PoolAllocator, AllocError>
+    requires made { CanMake settings.now }
+    requires payload { memory_size ≡ payload (first_buckets settings.now) }
+    ensures pool { IfOk result (λ pool. pool ≡ first_pool settings.now) }
+{
+    let bucket_layout = Layout::new(settings.size, settings.alignment).unwrap();
+    let mut pool = PoolAllocator::new_uninit(MAX_ALIGNMENT, memory_size, &Config { bucket_layout });
+    match pool.init(alloc) {
+        Ok(()) => Ok(pool),
+        Err(_) => Err(AllocError),
+    }
 }

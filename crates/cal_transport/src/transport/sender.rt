@@ -1,17 +1,57 @@
 //! The sender's commands: loan, write, send, reclaim and discard.
 
-ghost use Rattle.std.specs.Prelude.{◌≡◌, ◌<◌, ◌+◌, ◌*◌, nat_lt, length, if◌then◌else◌};
+ghost use Rattle.std.specs.Prelude.{◌≡◌, ◌<◌, ◌≤◌, ◌+◌, nat_lt, length, if◌then◌else◌};
 ghost use Rattle.cal_queue.specs.UsedChunks.{contains};
 ghost use Rattle.cal_alloc.specs.Pool.{IsUsedBucket, given_back};
-ghost use Rattle.cal_transport.specs.Rules.{write_rule, send_rule, WriteDoes, SendDoes, ReclaimDoes, DiscardDoes};
+ghost use Rattle.cal_transport.specs.Entry.{AreBelow};
+ghost use Rattle.cal_transport.specs.Rules.{write_rule, send_rule, IsPools, refusal_of, LoanDoes, WriteDoes, SendDoes, ReclaimDoes, DiscardDoes};
 
 use crate::entry::{Entry, entry_at, find_entry};
-use crate::memory::overwrite;
+use crate::memory::{clear, overwrite};
 use crate::reply::{Refusal, Slot};
 use crate::transport::Transport;
-use cal_alloc::{PointerOffset, PoolAllocator};
+use cal_alloc::{Layout, PointerOffset, PoolAllocator, ShmAllocationError, ShmAllocator};
 
 impl Transport {
+    /// Loans a chunk of zeros, in any free bucket. The name is greater than all before it, and there is room for
+    /// its entry.
+    pub(crate) fn loan(
+        &mut self,
+        name: usize,
+        size: usize,
+        alignment: usize,
+    ) -> Result<Slot, Refusal>
+        requires below { AreBelow self.old.entries name }
+        requires room { 0 < self.old.room }
+        ensures step { LoanDoes self.old name size alignment result self.new }
+        ensures named { AreBelow self.new.entries (name + 1) }
+        ensures room { self.old.room ≤ self.new.room + 1 }
+    {
+        let Some(layout) = Layout::new(size, alignment) else {
+            return Err(Refusal::BadLayout);
+        };
+        let pointer = match self.pool.allocate(layout) {
+            Ok(pointer) => pointer,
+            Err(error) => return Err(refusal_of(error)),
+        };
+        let place = pointer.offset();
+        let bucket = place / self.pool.bucket_size();
+        clear(&mut self.memory, place, self.pool.bucket_size());
+        self.owners[bucket] = self.entries.len();
+        self.entries.push_reserved(Entry {
+            name,
+            bucket,
+            loaned: true,
+            sent: false,
+            borrowed: false,
+        });
+        Ok(Slot {
+            chunk: name,
+            segment: 0,
+            place,
+        })
+    }
+
     /// Writes bytes into a loaned chunk that wasn't sent yet.
     pub(crate) fn write(&mut self, chunk: usize, at: usize, bytes: &[u8]) -> Result<(), Refusal>
         ensures step { WriteDoes self.old chunk at bytes.now result self.new }
@@ -126,6 +166,19 @@ impl Transport {
         ensures used { result ≡ contains self.now.used bucket }
     {
         bucket < self.used.capacity() && self.used.contains(bucket)
+    }
+}
+
+/// The refusal of the same name as the pool's.
+fn refusal_of(error: ShmAllocationError) -> Refusal
+    requires pools { IsPools error }
+    ensures same { result ≡ refusal_of error }
+{
+    match error {
+        ShmAllocationError::ExceedsMaxSupportedAlignment => Refusal::ExceedsMaxSupportedAlignment,
+        ShmAllocationError::SizeTooLarge => Refusal::SizeTooLarge,
+        ShmAllocationError::OutOfMemory => Refusal::OutOfMemory,
+        ShmAllocationError::SizeIsZero => unreachable!(),
     }
 }
 

@@ -1,0 +1,66 @@
+//! The chunks that are in transit.
+
+ghost use Rattle.std.specs.Prelude.{◌≡◌, ◌*◌, ◌^◌, ◌<◌, ◌≤◌, ◌++◌, flat_map, min};
+ghost use Rattle.cal_transport.specs.Ledger.{Ledger, numbers_below};
+ghost use Rattle.cal_transport.specs.Parts.{StandsFor};
+ghost use Rattle.cal_transport.specs.Transit.{transit_reply, LeadUsed};
+ghost use Rattle.cal_transport.specs.Run.{transit_list};
+
+use crate::entry::{Entry, entry_at};
+use crate::replies::Replies;
+use crate::reply::{Reply, Slot};
+use crate::transport::Transport;
+use cal_queue::used_chunk_list::UsedChunkList;
+
+impl Transport {
+    /// The most chunks that can be in transit at a time.
+    pub(crate) fn most_in_transit(&self) -> usize
+        ensures most { result ≡ min self.now.pool.buckets.count self.now.settings.samples }
+    {
+        (self.pool.number_of_buckets() as usize).min(self.settings.samples)
+    }
+
+    /// Appends a reply for each chunk in transit, by segment and place.
+    pub(crate) fn transit(&self, into: &mut Replies)
+        requires room { min self.now.pool.buckets.count self.now.settings.samples ≤ into.old.spare }
+        ensures listed { (l : Ledger) → StandsFor self.now l → into.new.items ≡ into.old.items ++ transit_list l }
+    {
+        append_transit(
+            &self.used,
+            &self.entries,
+            &self.owners,
+            self.pool.bucket_size(),
+            self.most_in_transit(),
+            into,
+        );
+    }
+}
+
+/// Appends a reply for each used bucket below a limit.
+fn append_transit(
+    used: &UsedChunkList,
+    entries: &[Entry],
+    owners: &[usize],
+    size: usize,
+    limit: usize,
+    into: &mut Replies,
+)
+    requires room { limit ≤ into.old.spare }
+    requires used { LeadUsed used.now entries.now owners.now limit }
+    requires small { limit * size < 2 ^ 64 }
+    ensures listed { into.new.items ≡ into.old.items ++ flat_map (transit_reply used.now entries.now owners.now size) (numbers_below limit) }
+{
+    for bucket in 0..limit {
+        if used.contains(bucket) {
+            let found = entry_at(entries, owners, bucket);
+            into.push(Reply::Transit {
+                channel: 0,
+                slot: Slot {
+                    chunk: found.entry.name,
+                    segment: 0,
+                    place: bucket * size,
+                },
+            });
+        }
+    }
+}
