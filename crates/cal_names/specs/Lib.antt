@@ -1,0 +1,5 @@
+pub mod BoundedBytes
+pub mod FileName
+pub mod Path
+pub mod FilePath
+pub mod TypeName

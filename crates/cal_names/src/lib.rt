@@ -1,2 +1,13 @@
 //! Names of concepts, the configurations that make paths of them, and the hash of a type's name.
 #![tactic(auto)]
+
+mod bounded_bytes;
+pub mod file_name;
+pub mod file_path;
+pub mod path;
+pub mod type_name;
+
+pub use file_name::FileName;
+pub use file_path::FilePath;
+pub use path::Path;
+pub use type_name::TypeName;
