@@ -3,3 +3,4 @@ pub mod FileName
 pub mod Path
 pub mod FilePath
 pub mod TypeName
+pub mod TypeHash

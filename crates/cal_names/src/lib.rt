@@ -5,6 +5,7 @@ mod bounded_bytes;
 pub mod file_name;
 pub mod file_path;
 pub mod path;
+pub mod type_hash;
 pub mod type_name;
 
 pub use file_name::FileName;
