@@ -4,3 +4,5 @@ pub mod Path
 pub mod FilePath
 pub mod TypeName
 pub mod TypeHash
+pub mod Settings
+pub mod Extraction

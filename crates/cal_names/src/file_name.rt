@@ -1,6 +1,6 @@
 //! The name of a file.
-ghost use Rattle.std.specs.Prelude.{◌≡◌, ◌↔◌, IsTrue, IsSome, IfSome};
-ghost use Rattle.cal_names.specs.FileName.{IsFileName, is_file_name_byte};
+ghost use Rattle.std.specs.Prelude.{◌≡◌, ◌↔◌, IsTrue, IsSome};
+ghost use Rattle.cal_names.specs.FileName.{IsFileName, is_file_name_byte, as_file_name};
 
 use crate::bounded_bytes::BoundedBytes;
 use std::marker::Model;
@@ -29,9 +29,10 @@ impl Model for FileName {
 
 impl FileName {
     /// The file name of these bytes, where they are one.
+    #[tactic(auto, using(crate::specs::FileName::as_file_name_yes, crate::specs::FileName::as_file_name_no))]
     pub fn new(value: &[u8]) -> Option<Self>
         ensures rule { IsSome result ↔ IsFileName value.now }
-        ensures bytes { IfSome result (λ name. name ≡ value.now) }
+        ensures value { result ≡ as_file_name value.now }
     {
         if is_file_name(value) {
             Some(FileName {

@@ -4,11 +4,14 @@
 mod bounded_bytes;
 pub mod file_name;
 pub mod file_path;
+mod name_paths;
 pub mod path;
+pub mod path_too_long;
 pub mod type_hash;
 pub mod type_name;
 
 pub use file_name::FileName;
 pub use file_path::FilePath;
 pub use path::Path;
+pub use path_too_long::PathTooLong;
 pub use type_name::TypeName;
