@@ -87,3 +87,15 @@ pub extracted_name_at-own : (settings : Settings) (path name : List ℕ) → pat
 extracted_name_at-own settings path name at_hint file rule =
     ap (λ t. if t then extracted_name settings (file_name_part path) else None) ((bytes_eq-Decides (path_part path) settings.path_hint).1 at_hint)
     ∙ (extracted_name-exact settings (file_name_part path) name).1 (rule, file)
+
+-- the same of an answer that is the extracted name
+pub exact_from_value : (settings : Settings) (file_name : List ℕ) (answer : Option (List ℕ)) → answer ≡ extracted_name settings file_name → (name : List ℕ) → (answer ≡ Some name) ↔ (IsFileName name × (file_name ≡ file_name_for settings name))
+exact_from_value settings file_name answer value name =
+    let told = extracted_name-exact settings file_name name in
+    (λ found. told.0 (sym value ∙ found), λ known. value ∙ told.1 known)
+
+-- a path elsewhere stands for no name
+pub extracted_name_at-elsewhere : (settings : Settings) (path : List ℕ) → (path_part path ≡ settings.path_hint → ⊥) → extracted_name_at settings path ≡ None
+extracted_name_at-elsewhere settings path elsewhere =
+    elim (bytes_eq (path_part path) settings.path_hint) as (λ t. bytes_eq (path_part path) settings.path_hint ≡ t → (if t then extracted_name settings (file_name_part path) else None) ≡ None)
+    [ true ↦ λ same. absurd (elsewhere ((bytes_eq-Decides (path_part path) settings.path_hint).0 same)) | false ↦ λ other. refl ] refl

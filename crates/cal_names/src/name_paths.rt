@@ -1,5 +1,5 @@
 //! The path that stands for a name, and the name that a file name stands for. Configurations give the parts.
-ghost use Rattle.std.specs.Prelude.{◌≡◌, ◌≤◌, ◌↔◌, List, ℕ, length, Some, IsOk, IfOk};
+ghost use Rattle.std.specs.Prelude.{◌≡◌, ◌≤◌, ◌↔◌, [], length, Some, IsOk, IfOk};
 ghost use Rattle.cal_names.specs.Settings.{Settings, file_name_for, file_path_for, type_part, extracted_name, extracted_name_at};
 
 use crate::bounded_bytes::BoundedBytes;
@@ -43,7 +43,7 @@ pub(crate) fn name_of_file(
     suffix: &FileName,
     file_name: &FileName,
 ) -> Option<FileName>
-    ensures value { (path_hint : List ℕ) → result ≡ extracted_name (record { prefix = prefix.now; type_name = type_name; suffix = suffix.now; path_hint = path_hint }) file_name.now }
+    ensures { let settings : Settings = record { prefix = prefix.now; type_name = type_name; suffix = suffix.now; path_hint = [] } in result ≡ extracted_name settings file_name.now }
 {
     let between = type_part(type_name);
     let rest = file_name.as_bytes().strip_prefix(prefix.as_bytes())?;
