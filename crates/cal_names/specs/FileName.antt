@@ -34,7 +34,7 @@ as_file_name bytes = if is_file_name bytes then Some bytes else None
 Decides-le_255 : (n : ℕ) → Decides (nat_le n 255) (n ≤ 255)
 Decides-le_255 n = (λ test. grind (arith, nat_tests), λ fits. grind (arith, nat_tests))
 
-false_from_no : (test : Bool) (P : Type 0) → Decides test P → (P → ⊥) → test ≡ false
+pub false_from_no : (test : Bool) (P : Type 0) → Decides test P → (P → ⊥) → test ≡ false
 false_from_no true P decides refuted = absurd (refuted (decides.0 refl))
 false_from_no false P decides refuted = refl
 

@@ -1,7 +1,7 @@
 -- The rule of paths.
-use Rattle.std.specs.Prelude.{◌≡◌, ℕ, ◌≤◌, Bool, ◌==◌, ◌⊎◌, List, ◌∷◌, length}
-use Rattle.std.specs.List.{All, join_with_byte}
-use Rattle.cal_names.specs.FileName.{IsFileName}
+use Rattle.std.specs.Prelude.{◌≡◌, ℕ, ◌≤◌, Bool, true, ◌&&◌, ◌==◌, nat_le, ◌⊎◌, List, [], ◌∷◌, length, Option, Some, None, if◌then◌else◌}
+use Rattle.std.specs.List.{All, join_with_byte, list_all, slice_split}
+use Rattle.cal_names.specs.FileName.{IsFileName, is_file_name}
 
 -- the byte `/`
 abbrev pub slash : ℕ
@@ -17,3 +17,20 @@ pub record AreJoinedFileNames (bytes : List ℕ) : Type 0 where
 pub record IsPath (path : List ℕ) : Type 0 where
   pub fits : length path ≤ 768
   pub form : AreJoinedFileNames path ⊎ ((rest : List ℕ) × AreJoinedFileNames rest × (path ≡ slash ∷ rest))
+
+-- the same rule as a test: each part between the `/` is a file name
+abbrev pub are_joined_file_names : List ℕ → Bool
+are_joined_file_names [] = true
+are_joined_file_names (byte ∷ bytes) = list_all is_file_name (slice_split (λ b. b == slash) (byte ∷ bytes))
+
+-- the bytes behind a first `/`, if there is one
+abbrev pub behind_first_slash : List ℕ → List ℕ
+behind_first_slash [] = []
+behind_first_slash (byte ∷ bytes) = if byte == slash then bytes else byte ∷ bytes
+
+abbrev pub is_path : List ℕ → Bool
+is_path path = nat_le (length path) 768 && are_joined_file_names (behind_first_slash path)
+
+-- these bytes, where they are a path
+abbrev pub as_path : List ℕ → Option (List ℕ)
+as_path bytes = if is_path bytes then Some bytes else None

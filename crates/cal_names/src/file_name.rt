@@ -1,5 +1,5 @@
 //! The name of a file.
-ghost use Rattle.std.specs.Prelude.{◌≡◌, ◌↔◌, IsTrue, IsSome};
+ghost use Rattle.std.specs.Prelude.{◌≡◌, ◌↔◌, IsTrue, IsSome, IfSome};
 ghost use Rattle.cal_names.specs.FileName.{IsFileName, is_file_name_byte, as_file_name};
 
 use crate::bounded_bytes::BoundedBytes;
@@ -32,6 +32,7 @@ impl FileName {
     #[tactic(auto, using(crate::specs::FileName::as_file_name_yes, crate::specs::FileName::as_file_name_no))]
     pub fn new(value: &[u8]) -> Option<Self>
         ensures rule { IsSome result ↔ IsFileName value.now }
+        ensures bytes { IfSome result (λ name. name ≡ value.now) }
         ensures value { result ≡ as_file_name value.now }
     {
         if is_file_name(value) {

@@ -25,3 +25,6 @@ pub use named_type::NamedType;
 pub use path::Path;
 pub use path_too_long::PathTooLong;
 pub use type_name::TypeName;
+
+#[cfg(test)]
+mod tests;

@@ -1,6 +1,6 @@
 //! The path of a directory.
 ghost use Rattle.std.specs.Prelude.{◌≡◌, ◌↔◌, IsTrue, IsSome, IfSome};
-ghost use Rattle.cal_names.specs.Path.{IsPath, AreJoinedFileNames};
+ghost use Rattle.cal_names.specs.Path.{IsPath, AreJoinedFileNames, as_path};
 
 use crate::bounded_bytes::BoundedBytes;
 use crate::file_name::is_file_name;
@@ -30,9 +30,11 @@ impl Model for Path {
 
 impl Path {
     /// The path of these bytes, where they are one.
+    #[tactic(auto, using(crate::proofs::Paths::as_path_yes, crate::proofs::Paths::as_path_no))]
     pub fn new(value: &[u8]) -> Option<Self>
         ensures rule { IsSome result ↔ IsPath value.now }
         ensures bytes { IfSome result (λ path. path ≡ value.now) }
+        ensures value { result ≡ as_path value.now }
     {
         if is_path(value) {
             Some(Path {
