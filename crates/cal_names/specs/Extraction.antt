@@ -19,6 +19,10 @@ chosen : (test : Bool) (value wanted : List ℕ) → (if test then Some value el
 chosen true value wanted found = (refl, cc)
 chosen false value wanted found = absurd (cc)
 
+chosen_name : (test : Bool) (value : Option (List ℕ)) (wanted : List ℕ) → (if test then value else None) ≡ Some wanted → (test ≡ true) × (value ≡ Some wanted)
+chosen_name true value wanted found = (refl, found)
+chosen_name false value wanted found = absurd (cc)
+
 as_file_name-exact : (bytes name : List ℕ) → (as_file_name bytes ≡ Some name) ↔ (IsFileName name × (bytes ≡ name))
 as_file_name-exact bytes name = (
   λ found. let told = chosen (is_file_name bytes) bytes name found in
@@ -82,11 +86,19 @@ extracted_name-exact settings file_name name =
           ∙ (as_file_name-exact name name).1 (known.0, refl),
     )
 
--- where its file name is the one that is made of a name, a path under the path hint stands for this name
-pub extracted_name_at-own : (settings : Settings) (path name : List ℕ) → path_part path ≡ settings.path_hint → file_name_part path ≡ file_name_for settings name → IsFileName name → extracted_name_at settings path ≡ Some name
-extracted_name_at-own settings path name at_hint file rule =
-    ap (λ t. if t then extracted_name settings (file_name_part path) else None) ((bytes_eq-Decides (path_part path) settings.path_hint).1 at_hint)
-    ∙ (extracted_name-exact settings (file_name_part path) name).1 (rule, file)
+-- a path stands for a name exactly where its path part is the path hint, and its file name the one that is made of this name
+pub extracted_name_at-exact : (settings : Settings) (path name : List ℕ) → (extracted_name_at settings path ≡ Some name) ↔ (IsFileName name × (path_part path ≡ settings.path_hint) × (file_name_part path ≡ file_name_for settings name))
+extracted_name_at-exact settings path name =
+    let test : Bool = bytes_eq (path_part path) settings.path_hint in
+    let told = extracted_name-exact settings (file_name_part path) name in (
+      λ found.
+          let at = chosen_name test (extracted_name settings (file_name_part path)) name found in
+          let known = told.0 at.1 in
+          (known.0, (bytes_eq-Decides (path_part path) settings.path_hint).0 at.0, known.1),
+      λ known.
+          ap (λ t. if t then extracted_name settings (file_name_part path) else None) ((bytes_eq-Decides (path_part path) settings.path_hint).1 known.1)
+          ∙ told.1 (known.0, known.2),
+    )
 
 -- the same of an answer that is the extracted name
 pub exact_from_value : (settings : Settings) (file_name : List ℕ) (answer : Option (List ℕ)) → answer ≡ extracted_name settings file_name → (name : List ℕ) → (answer ≡ Some name) ↔ (IsFileName name × (file_name ≡ file_name_for settings name))

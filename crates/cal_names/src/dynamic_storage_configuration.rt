@@ -1,6 +1,7 @@
 //! The configuration of a dynamic storage: the hash of the stored type's name stands in the path of a name.
 ghost use Rattle.std.specs.Prelude.{◌≡◌, ◌≤◌, ◌↔◌, ℕ, List, Some, length, IsOk, IfOk};
 ghost use Rattle.cal_names.specs.FileName.{IsFileName};
+ghost use Rattle.cal_names.specs.FilePath.{IsFilePath};
 ghost use Rattle.cal_names.specs.Settings.{file_name_for, file_path_for, extracted_name, extracted_name_at};
 
 use crate::file_name::FileName;
@@ -21,7 +22,7 @@ pub trait DynamicStorageConfiguration: NamedConceptConfiguration {
     fn path_for_with_type(&self, value: &FileName) -> Result<FilePath, PathTooLong>
         ensures fits { IsOk result ↔ (length (file_name_for (Self.settings self.now) value.now) ≤ 255) }
         ensures path { IfOk result (λ path. path ≡ file_path_for (Self.settings self.now) value.now) }
-        ensures back { IfOk result (λ path. extracted_name_at (Self.settings self.now) path ≡ Some value.now) }
+        ensures inverse { (other : List ℕ) → IsFilePath other → (extracted_name_at (Self.settings self.now) other ≡ Some value.now) ↔ (result ≡ Ok other) }
     {
         path_of_name(
             self.get_path_hint(),

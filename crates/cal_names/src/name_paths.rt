@@ -1,5 +1,6 @@
 //! The path that stands for a name, and the name that a file name stands for. Configurations give the parts.
-ghost use Rattle.std.specs.Prelude.{◌≡◌, ◌≤◌, ◌↔◌, [], length, Some, IsOk, IfOk};
+ghost use Rattle.std.specs.Prelude.{◌≡◌, ◌≤◌, ◌↔◌, ℕ, List, [], length, Some, Ok, IsOk, IfOk};
+ghost use Rattle.cal_names.specs.FilePath.{IsFilePath};
 ghost use Rattle.cal_names.specs.Settings.{Settings, file_name_for, file_path_for, type_part, extracted_name, extracted_name_at};
 
 use crate::bounded_bytes::BoundedBytes;
@@ -20,7 +21,7 @@ pub(crate) fn path_of_name(
 ) -> Result<FilePath, PathTooLong>
     ensures fits { let settings : Settings = record { prefix = prefix.now; type_name = type_name; suffix = suffix.now; path_hint = path_hint.now } in IsOk result ↔ (length (file_name_for settings name.now) ≤ 255) }
     ensures path { let settings : Settings = record { prefix = prefix.now; type_name = type_name; suffix = suffix.now; path_hint = path_hint.now } in IfOk result (λ path. path ≡ file_path_for settings name.now) }
-    ensures back { let settings : Settings = record { prefix = prefix.now; type_name = type_name; suffix = suffix.now; path_hint = path_hint.now } in IfOk result (λ path. extracted_name_at settings path ≡ Some name.now) }
+    ensures inverse { let settings : Settings = record { prefix = prefix.now; type_name = type_name; suffix = suffix.now; path_hint = path_hint.now } in (other : List ℕ) → IsFilePath other → (extracted_name_at settings other ≡ Some name.now) ↔ (result ≡ Ok other) }
 {
     let between = type_part(type_name);
     let between = between.as_bytes();

@@ -7,7 +7,7 @@ ghost use Rattle.std.specs.List.Sorted.{IsStrictlySortedBy};
 ghost use Rattle.std.specs.Cmp.Lexicographic.{slice_cmp};
 ghost use Rattle.std.specs.Ordering.{nat_cmp};
 ghost use Rattle.cal_names.specs.FileName.{IsFileName};
-ghost use Rattle.cal_names.specs.FilePath.{path_part, file_name_part};
+ghost use Rattle.cal_names.specs.FilePath.{IsFilePath, path_part, file_name_part};
 ghost use Rattle.cal_names.specs.Settings.{Settings, file_name_for, file_path_for, extracted_name, extracted_name_at, is_name};
 
 use crate::file_name::FileName;
@@ -111,7 +111,7 @@ pub trait NamedConceptConfiguration: Default + Clone + Copy + Debug + Send {
     fn path_for(&self, value: &FileName) -> Result<FilePath, PathTooLong>
         ensures fits { IsOk result ↔ (length (file_name_for (settings self.now) value.now) ≤ 255) }
         ensures path { IfOk result (λ path. path ≡ file_path_for (settings self.now) value.now) }
-        ensures back { IfOk result (λ path. extracted_name_at (settings self.now) path ≡ Some value.now) }
+        ensures inverse { (other : List ℕ) → IsFilePath other → (extracted_name_at (settings self.now) other ≡ Some value.now) ↔ (result ≡ Ok other) }
     {
         path_of_name(
             self.get_path_hint(),
