@@ -6,3 +6,4 @@ pub mod TypeName
 pub mod TypeHash
 pub mod Settings
 pub mod Extraction
+pub mod NamedConceptMgmt

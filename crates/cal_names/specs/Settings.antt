@@ -1,5 +1,5 @@
 -- What a configuration makes of a name: the file name and the path that stand for it, and back.
-use Rattle.std.specs.Prelude.{◌≡◌, ℕ, ◌-◌, Bool, false, List, [], ◌++◌, length, take, drop, Option, Some, None, codes, if◌then◌else◌}
+use Rattle.std.specs.Prelude.{◌≡◌, ℕ, ◌-◌, Bool, List, [], ◌++◌, length, take, drop, Option, Some, None, codes, if◌then◌else◌}
 use Rattle.std.specs.Option.{option_and_then}
 use Rattle.std.specs.Str.{bytes_eq}
 use Rattle.cal_names.specs.FileName.{as_file_name}
@@ -49,8 +49,3 @@ extracted_name settings file_name =
 abbrev pub extracted_name_at : Settings → List ℕ → Option (List ℕ)
 extracted_name_at settings path =
     if bytes_eq (path_part path) settings.path_hint then extracted_name settings (file_name_part path) else None
-
--- whether this is the name
-abbrev pub is_name : List ℕ → Option (List ℕ) → Bool
-is_name name None = false
-is_name name (Some other) = bytes_eq other name

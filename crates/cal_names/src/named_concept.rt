@@ -8,7 +8,8 @@ ghost use Rattle.std.specs.Cmp.Lexicographic.{slice_cmp};
 ghost use Rattle.std.specs.Ordering.{nat_cmp};
 ghost use Rattle.cal_names.specs.FileName.{IsFileName};
 ghost use Rattle.cal_names.specs.FilePath.{IsFilePath, path_part, file_name_part};
-ghost use Rattle.cal_names.specs.Settings.{Settings, file_name_for, file_path_for, extracted_name, extracted_name_at, is_name};
+ghost use Rattle.cal_names.specs.Settings.{Settings, file_name_for, file_path_for, extracted_name, extracted_name_at};
+ghost use Rattle.cal_names.specs.NamedConceptMgmt.{is_name};
 
 use crate::file_name::FileName;
 use crate::file_path::FilePath;
@@ -71,7 +72,7 @@ pub enum NamedConceptPathHintRemoveError {
 }
 
 /// What a configuration of a concept holds: prefix, suffix and path hint, from which it makes the path of a name.
-pub trait NamedConceptConfiguration: Default + Clone + Copy + Debug + Send {
+pub trait NamedConceptConfiguration: Default + Clone + Copy + Debug {
     // What the configuration holds.
     ghost settings: { Self → Settings };
 
