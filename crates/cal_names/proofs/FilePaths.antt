@@ -1,6 +1,6 @@
 -- The two parts of a file path.
 use Rattle.std.proofs.Common.{◌≡◌, ℕ, ◌+◌, ◌-◌, ◌<◌, ◌≤◌, Bool, true, false, not, eqb, List, [], ◌∷◌, ◌++◌, length, take, drop, get_or, nat_le, ◌==◌, if◌then◌else◌, arith, refl, sym, ap, ◌∙◌, subst, length-append, append_assoc}
-use Rattle.std.specs.List.{All, suffix_len}
+use Rattle.std.specs.List.{suffix_len}
 use Rattle.std.proofs.lemmas.Bool.Decides.{nat_tests}
 use Rattle.std.proofs.lemmas.List.{get_or_append_left, get_or-append_right, get_or_at}
 use Rattle.std.proofs.lemmas.List.Sums.{suffix_len_is}

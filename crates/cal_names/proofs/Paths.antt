@@ -1,5 +1,5 @@
 -- File names joined by `/` are the parts between the `/`.
-use Rattle.std.proofs.Common.{◌≡◌, ℕ, ◌<◌, ◌≤◌, ◌⊎◌, Bool, true, false, eqb, nat_le, if◌then◌else◌, List, [], ◌∷◌, length, Option, Some, None, MatchBool, IsTrue, arith, refl, sym, ap, ◌∙◌, subst, ⊎_elim, inl, inr}
+use Rattle.std.proofs.Common.{◌≡◌, ℕ, ◌<◌, ◌≤◌, ◌⊎◌, Bool, true, false, eqb, nat_le, if◌then◌else◌, List, [], ◌∷◌, length, Some, None, MatchBool, IsTrue, arith, refl, sym, ap, ◌∙◌, subst, ⊎_elim, inl, inr}
 use Rattle.std.specs.List.{All, AllWithin, HoldsAt, join_with_byte, slice_split, list_all}
 use Rattle.std.specs.Bool.{Decides}
 use Rattle.std.proofs.lemmas.List.Sums.{AllPass-from_list_all, list_all-from_AllPass}
@@ -7,7 +7,6 @@ use Rattle.std.proofs.lemmas.Bool.{cases_eq, true≢false, false≢true}
 use Rattle.std.proofs.lemmas.Bool.Decides.{nat_tests, Decides-eqb, Decides-and, Decides-like}
 use Rattle.std.proofs.lemmas.List.Elements.{All-nil, All-weaker, All-head, All-tail, All-same, All-get_or, All-from_all_within}
 use Rattle.std.proofs.lemmas.List.Splits.{slice_split_none, slice_split_at, join_with_byte-slice_split}
-use Rattle.std.proofs.lemmas.Iterator.Search.{true_from_All}
 use Rattle.cal_names.specs.FileName.{IsFileName, is_file_name, is_file_name-decides, is_file_name_byte, false_from_no}
 use Rattle.cal_names.specs.Path.{slash, AreJoinedFileNames, IsPath, are_joined_file_names, behind_first_slash, is_path, as_path}
 

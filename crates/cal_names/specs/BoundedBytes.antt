@@ -1,5 +1,5 @@
 -- Bytes at the front of a fixed number of places, with zeros behind them.
-use Rattle.std.specs.Prelude.{◌≡◌, ℕ, ◌+◌, ◌-◌, ◌<◌, ◌≤◌, List, [], ◌∷◌, ◌++◌, length, take, drop, replicate, slice_index}
+use Rattle.std.specs.Prelude.{◌≡◌, ℕ, ◌+◌, ◌-◌, ◌<◌, ◌≤◌, List, ◌++◌, length, take, drop, replicate, slice_index}
 use Rattle.std.proofs.Common.{arith, sym, ap, ◌∙◌, take-append-drop, length-take-le, length-drop}
 use Rattle.std.proofs.lemmas.List.{ext_get_or, get_or-replicate, get_or-drop, length-replicate}
 

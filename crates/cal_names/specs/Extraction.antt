@@ -1,14 +1,13 @@
 -- Extraction is the inverse of what a configuration makes of a name.
-use Rattle.std.specs.Prelude.{◌≡◌, ℕ, ◌-◌, ◌≤◌, ◌↔◌, Bool, true, false, List, [], ◌∷◌, ◌++◌, length, take, drop, Option, Some, None, if◌then◌else◌}
-use Rattle.std.specs.List.{AllPass}
+use Rattle.std.specs.Prelude.{◌≡◌, ℕ, ◌-◌, ◌↔◌, Bool, true, false, List, ◌++◌, length, take, drop, Option, Some, None, if◌then◌else◌}
 use Rattle.std.specs.Option.{option_and_then}
 use Rattle.std.specs.Str.{bytes_eq}
-use Rattle.std.proofs.Common.{arith, rules, refl, sym, ap, ◌∙◌, subst, append_assoc, length-append, take-append-drop}
+use Rattle.std.proofs.Common.{arith, refl, sym, ap, ◌∙◌, subst, append_assoc, length-append, take-append-drop}
 use Rattle.std.proofs.lemmas.Slice.Eq.{bytes_eq-Decides}
 use Rattle.std.proofs.Math.Seq.{drop-append_seam, take-append_seam}
 use Rattle.cal_names.specs.FileName.{IsFileName, is_file_name, is_file_name-decides, as_file_name}
 use Rattle.cal_names.specs.FilePath.{path_part, file_name_part}
-use Rattle.cal_names.specs.Settings.{Settings, type_part, file_name_for, file_path_for, without_prefix, without_suffix, extracted_name, extracted_name_at}
+use Rattle.cal_names.specs.Settings.{Settings, type_part, file_name_for, without_prefix, without_suffix, extracted_name, extracted_name_at}
 
 and_then-some : {T U : Type 0} (f : T → Option U) (o : Option T) (y : U) → option_and_then f o ≡ Some y → (x : T) × (o ≡ Some x) × (f x ≡ Some y)
 and_then-some f None y found = absurd (cc)

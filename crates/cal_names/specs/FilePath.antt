@@ -1,5 +1,5 @@
 -- The rule of file paths, and their two parts.
-use Rattle.std.specs.Prelude.{◌≡◌, ℕ, ◌-◌, Bool, not, ◌==◌, nat_le, List, [], ◌∷◌, ◌++◌, length, take, drop, if◌then◌else◌}
+use Rattle.std.specs.Prelude.{◌≡◌, ℕ, ◌-◌, not, ◌==◌, nat_le, List, [], ◌∷◌, ◌++◌, length, take, drop, if◌then◌else◌}
 use Rattle.std.specs.List.{suffix_len}
 use Rattle.cal_names.specs.FileName.{IsFileName}
 use Rattle.cal_names.specs.Path.{slash, IsPath}

@@ -1,4 +1,4 @@
-use Rattle.std.proofs.Common.{ℕ, ◌<◌, ◌≡◌, rules, arith}
+use Rattle.std.proofs.Common.{arith}
 use Rattle.std.proofs.lemmas.Bool.Decides.{nat_tests}
 use Rattle.cal_names.proofs.FilePaths.{file_name_start_is}
 use Rattle.cal_names.proofs.file_path.file_name_start.Goals as goal

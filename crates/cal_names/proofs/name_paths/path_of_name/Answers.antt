@@ -1,5 +1,5 @@
 use Rattle.std.proofs.Common.{◌≡◌, ◌<◌, ◌≤◌, Ok, length, arith, rules, ap, ◌∙◌, length-append}
-use Rattle.cal_names.specs.FilePath.{path_part, file_name_part}
+use Rattle.cal_names.specs.FilePath.{file_name_part}
 use Rattle.cal_names.specs.Settings.{Settings, file_name_for, file_path_for}
 use Rattle.cal_names.proofs.NamePaths.{is_file_name_for, stands_for, stands_for_none}
 use Rattle.cal_names.proofs.name_paths.path_of_name.Goals as goal

@@ -1,8 +1,7 @@
-use Rattle.std.proofs.Common.{◌<◌, length, eqb, rules, tests}
+use Rattle.std.proofs.Common.{rules, tests}
 use Rattle.std.proofs.lemmas.Iterator.{cases_from_all}
 use Rattle.std.proofs.lemmas.Iterator.Splits.{YieldsList-from_slice_split}
 use Rattle.cal_names.specs.FileName.{IsFileName}
-use Rattle.cal_names.specs.Path.{slash}
 use Rattle.cal_names.proofs.Paths.{told_by_parts}
 use Rattle.cal_names.proofs.path.are_joined_file_names.Goals as goal
 

@@ -1,6 +1,5 @@
 use Rattle.std.proofs.Common.{◌≡◌, ◌*◌, ◌-◌, ◌/◌, ◌%◌, ◌^◌, ◌<◌, ℕ, length, slice_index}
 use Rattle.std.specs.Int.Digits.{number_from_digits}
-use Rattle.sha1.specs.Sha1.{sha1}
 use Rattle.cal_names.specs.TypeHash.{hash_letters}
 use Rattle.cal_names.proofs.type_hash.type_hash.Given as goal
 

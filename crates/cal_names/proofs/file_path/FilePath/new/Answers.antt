@@ -1,5 +1,4 @@
 use Rattle.std.proofs.Common.{rules}
-use Rattle.cal_names.specs.FilePath.{IsFilePath}
 use Rattle.cal_names.proofs.FilePaths.{parts}
 use Rattle.cal_names.proofs.file_path.FilePath.new.Goals as goal
 
