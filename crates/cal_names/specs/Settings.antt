@@ -14,6 +14,11 @@ pub record Settings : Type 0 where
   pub suffix : List ℕ
   pub path_hint : List ℕ
 
+-- the settings of these parts
+abbrev pub settings_from : List ℕ → Option (List ℕ) → List ℕ → List ℕ → Settings
+settings_from prefix type_name suffix path_hint =
+    record { prefix = prefix; type_name = type_name; suffix = suffix; path_hint = path_hint }
+
 -- what stands between the prefix and the name: the type's hash and `_`
 abbrev pub type_part : Option (List ℕ) → List ℕ
 type_part None = []

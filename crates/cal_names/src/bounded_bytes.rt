@@ -1,5 +1,6 @@
 //! Bytes of a bounded number, held in place and copied as a whole: what every name is made of.
-//! Contracts see the list of the bytes. The places behind them hold zeros, so that equal lists are equal values.
+//! Contracts see the list of the bytes. The places behind them hold zeros, so that equal lists are
+//! equal values.
 ghost use Rattle.std.specs.Prelude.{◌≡◌, ◌+◌, ◌<◌, ◌≤◌, [], ◌∷◌, ◌++◌, length, take, Some, nat_eq, refl};
 ghost use Rattle.std.specs.Ordering.{nat_cmp};
 ghost use Rattle.std.specs.Cmp.{partial_equiv_from_equiv};

@@ -7,8 +7,8 @@ use std::marker::Model;
 
 const MAX_LEN: usize = 255;
 
-/// The name of a file: 1 to 255 bytes, each an ASCII letter or digit, `_`, `-` or `.`, and neither `.` nor `..`.
-/// Contracts see the list of its bytes. Equality and order are those of the bytes.
+/// The name of a file: 1 to 255 bytes, each an ASCII letter or digit, `_`, `-` or `.`, and neither
+/// `.` nor `..`. Contracts see the list of its bytes. Equality and order are those of the bytes.
 #[derive(Clone, Copy, Debug, PartialEq, Eq, PartialOrd, Ord)]
 pub struct FileName {
     bytes: BoundedBytes<MAX_LEN>,

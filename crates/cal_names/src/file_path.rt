@@ -9,8 +9,8 @@ use std::marker::Model;
 
 const MAX_LEN: usize = 1024;
 
-/// The path of a file: a path, `/` unless the path is empty or `/`, and a file name, so at most 1024 bytes.
-/// Contracts see the list of its bytes. Equality and order are those of the bytes.
+/// The path of a file: a path, `/` unless the path is empty or `/`, and a file name, so at most
+/// 1024 bytes. Contracts see the list of its bytes. Equality and order are those of the bytes.
 #[derive(Clone, Copy, Debug, PartialEq, Eq, PartialOrd, Ord)]
 pub struct FilePath {
     bytes: BoundedBytes<MAX_LEN>,

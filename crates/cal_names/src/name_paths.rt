@@ -1,7 +1,8 @@
-//! The path that stands for a name, and the name that a file name stands for. Configurations give the parts.
+//! The path that stands for a name, and the name that a file name stands for. Configurations give
+//! the parts.
 ghost use Rattle.std.specs.Prelude.{◌≡◌, ◌≤◌, ◌↔◌, ℕ, List, [], length, Some, Ok, IsOk, IfOk};
 ghost use Rattle.cal_names.specs.FilePath.{IsFilePath};
-ghost use Rattle.cal_names.specs.Settings.{Settings, file_name_for, file_path_for, type_part, extracted_name, extracted_name_at};
+ghost use Rattle.cal_names.specs.Settings.{Settings, settings_from, file_name_for, file_path_for, type_part, extracted_name, extracted_name_at};
 
 use crate::bounded_bytes::BoundedBytes;
 use crate::file_name::FileName;
@@ -19,9 +20,13 @@ pub(crate) fn path_of_name(
     suffix: &FileName,
     name: &FileName,
 ) -> Result<FilePath, PathTooLong>
-    ensures fits { let settings : Settings = record { prefix = prefix.now; type_name = type_name; suffix = suffix.now; path_hint = path_hint.now } in IsOk result ↔ (length (file_name_for settings name.now) ≤ 255) }
-    ensures path { let settings : Settings = record { prefix = prefix.now; type_name = type_name; suffix = suffix.now; path_hint = path_hint.now } in IfOk result (λ path. path ≡ file_path_for settings name.now) }
-    ensures inverse { let settings : Settings = record { prefix = prefix.now; type_name = type_name; suffix = suffix.now; path_hint = path_hint.now } in (other : List ℕ) → IsFilePath other → (extracted_name_at settings other ≡ Some name.now) ↔ (result ≡ Ok other) }
+    ensures fits { let settings : Settings = settings_from prefix.now type_name suffix.now path_hint.now in
+        IsOk result ↔ (length (file_name_for settings name.now) ≤ 255) }
+    ensures path { let settings : Settings = settings_from prefix.now type_name suffix.now path_hint.now in
+        IfOk result (λ path. path ≡ file_path_for settings name.now) }
+    ensures inverse { let settings : Settings = settings_from prefix.now type_name suffix.now path_hint.now in
+        (other : List ℕ) → IsFilePath other →
+        (extracted_name_at settings other ≡ Some name.now) ↔ (result ≡ Ok other) }
 {
     let between = type_part(type_name);
     let between = between.as_bytes();
@@ -44,7 +49,8 @@ pub(crate) fn name_of_file(
     suffix: &FileName,
     file_name: &FileName,
 ) -> Option<FileName>
-    ensures { let settings : Settings = record { prefix = prefix.now; type_name = type_name; suffix = suffix.now; path_hint = [] } in result ≡ extracted_name settings file_name.now }
+    ensures { let settings : Settings = settings_from prefix.now type_name suffix.now [] in
+        result ≡ extracted_name settings file_name.now }
 {
     let between = type_part(type_name);
     let rest = file_name.as_bytes().strip_prefix(prefix.as_bytes())?;

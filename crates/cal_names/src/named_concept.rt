@@ -1,6 +1,6 @@
-//! Named concepts: what has a file name as its name and stands under a path. A configuration makes the path of a name
-//! and extracts the name again, and the registry holds the paths. Everything that is stored or connected implements
-//! these traits.
+//! Named concepts: what has a file name as its name and stands under a path. A configuration makes
+//! the path of a name and extracts the name again, and the registry holds the paths. Everything
+//! that is stored or connected implements these traits.
 ghost use Rattle.std.specs.Prelude.{◌≡◌, ◌≤◌, ◌↔◌, ℕ, Bool, not, List, Option, Some, true, length, codes, IsOk, IfOk, IfErr, OnOk, OnErr, IfSome, IsTrue};
 ghost use Rattle.std.specs.List.{list_any, filter, filter_map};
 ghost use Rattle.std.specs.List.Sorted.{IsStrictlySortedBy};
@@ -21,7 +21,8 @@ use std::alloc::Global;
 use std::fmt::Debug;
 use thiserror::Error;
 
-/// Why it isn't known whether a concept exists. No call answers any of these; the crate's names are kept.
+/// Why it isn't known whether a concept exists. No call answers any of these; the crate's names are
+/// kept.
 #[derive(Debug, Clone, Copy, PartialEq, Eq, Hash, Error)]
 pub enum NamedConceptDoesExistError {
     #[error("NamedConceptDoesExistError::InsufficientPermissions")]
@@ -43,7 +44,8 @@ pub enum NamedConceptRemoveError {
     /// Kept by name, and never answered.
     #[error("NamedConceptRemoveError::InternalError")]
     InternalError,
-    /// There was no memory for the list of the paths, which one kind of concept makes first. Nothing has changed.
+    /// There was no memory for the list of the paths, which one kind of concept makes first.
+    /// Nothing has changed.
     #[error("NamedConceptRemoveError::NoMemory")]
     NoMemory,
 }
@@ -71,7 +73,8 @@ pub enum NamedConceptPathHintRemoveError {
     InternalError,
 }
 
-/// What a configuration of a concept holds: prefix, suffix and path hint, from which it makes the path of a name.
+/// What a configuration of a concept holds: prefix, suffix and path hint, from which it makes the
+/// path of a name.
 pub trait NamedConceptConfiguration: Default + Clone + Copy + Debug {
     // What the configuration holds.
     ghost settings: { Self → Settings };
@@ -103,8 +106,8 @@ pub trait NamedConceptConfiguration: Default + Clone + Copy + Debug {
     fn get_path_hint(&self) -> &Path
         ensures { result.now ≡ (settings self.now).path_hint };
 
-    /// The type name whose hash stands between the prefix and the name: that of the stored type, or none where
-    /// nothing is stored.
+    /// The type name whose hash stands between the prefix and the name: that of the stored type, or
+    /// none where nothing is stored.
     fn get_type_name(&self) -> Option<TypeName>
         ensures { result ≡ (settings self.now).type_name };
 
@@ -112,7 +115,8 @@ pub trait NamedConceptConfiguration: Default + Clone + Copy + Debug {
     fn path_for(&self, value: &FileName) -> Result<FilePath, PathTooLong>
         ensures fits { IsOk result ↔ (length (file_name_for (settings self.now) value.now) ≤ 255) }
         ensures path { IfOk result (λ path. path ≡ file_path_for (settings self.now) value.now) }
-        ensures inverse { (other : List ℕ) → IsFilePath other → (extracted_name_at (settings self.now) other ≡ Some value.now) ↔ (result ≡ Ok other) }
+        ensures inverse { (other : List ℕ) → IsFilePath other →
+            (extracted_name_at (settings self.now) other ≡ Some value.now) ↔ (result ≡ Ok other) }
     {
         path_of_name(
             self.get_path_hint(),
@@ -126,7 +130,9 @@ pub trait NamedConceptConfiguration: Default + Clone + Copy + Debug {
     /// The name that a path stands for.
     fn extract_name_from_path(&self, value: &FilePath) -> Option<FileName>
         ensures value { result ≡ extracted_name_at (settings self.now) value.now }
-        ensures exact { (name : List ℕ) → (result ≡ Some name) ↔ (IsFileName name × (path_part value.now ≡ (settings self.now).path_hint) × (file_name_part value.now ≡ file_name_for (settings self.now) name)) }
+        ensures exact { (name : List ℕ) → (result ≡ Some name)
+            ↔ (IsFileName name × (path_part value.now ≡ (settings self.now).path_hint)
+            × (file_name_part value.now ≡ file_name_for (settings self.now) name)) }
         ensures back { IfSome result (λ name. file_path_for (settings self.now) name ≡ value.now) }
     {
         if *self.get_path_hint() != value.path() {
@@ -138,7 +144,8 @@ pub trait NamedConceptConfiguration: Default + Clone + Copy + Debug {
     /// The name that a file name stands for.
     fn extract_name_from_file(&self, value: &FileName) -> Option<FileName>
         ensures value { result ≡ extracted_name (settings self.now) value.now }
-        ensures exact { (name : List ℕ) → (result ≡ Some name) ↔ (IsFileName name × (value.now ≡ file_name_for (settings self.now) name)) }
+        ensures exact { (name : List ℕ) → (result ≡ Some name)
+            ↔ (IsFileName name × (value.now ≡ file_name_for (settings self.now) name)) }
     {
         name_of_file(
             self.get_prefix(),
@@ -208,9 +215,12 @@ pub trait NamedConceptMgmt: Debug {
         reg: &mut Self::Names,
         name: &FileName,
     ) -> Result<bool, NamedConceptRemoveError>
-        ensures found { IfOk result (λ found. found ≡ list_any (goes_with Self.Configuration.initial name.now) (paths reg.old)) }
-        ensures gone { OnOk result (paths reg.new ≡ filter (λ path. not (goes_with Self.Configuration.initial name.now path)) (paths reg.old)) }
-        ensures no_memory { IfErr result (λ error. IsTrue lists_first × (error ≡ NamedConceptRemoveError.NoMemory)) }
+        ensures found { IfOk result (λ found.
+            found ≡ list_any (goes_with Self.Configuration.initial name.now) (paths reg.old)) }
+        ensures gone { let goes : List ℕ → Bool = goes_with Self.Configuration.initial name.now in
+            OnOk result (paths reg.new ≡ filter (λ path. not (goes path)) (paths reg.old)) }
+        ensures no_memory { IfErr result (λ error.
+            IsTrue lists_first × (error ≡ NamedConceptRemoveError.NoMemory)) }
         ensures unchanged { OnErr result (paths reg.new ≡ paths reg.old) }
     {
         Self::remove_cfg(alloc, reg, name, &Self::Configuration::default())
@@ -218,41 +228,48 @@ pub trait NamedConceptMgmt: Debug {
 
     /// `does_exist_cfg` under the default configuration.
     fn does_exist(reg: &Self::Names, name: &FileName) -> Result<bool, NamedConceptDoesExistError>
-        ensures { result ≡ Ok (list_any (λ path. is_name name.now (shown_name Self.Configuration.initial path)) (paths reg.now)) }
+        ensures { let shown : List ℕ → Option (List ℕ) = shown_name Self.Configuration.initial in
+            result ≡ Ok (list_any (λ path. is_name name.now (shown path)) (paths reg.now)) }
     {
         Self::does_exist_cfg(reg, name, &Self::Configuration::default())
     }
 
     /// `list_cfg` under the default configuration.
     fn list(alloc: Global, reg: &Self::Names) -> Result<Vec<FileName>, NamedConceptListError>
-        ensures names { IfOk result (λ list. list.items ≡ filter_map (shown_name Self.Configuration.initial) (paths reg.now)) }
+        ensures names { IfOk result (λ list.
+            list.items ≡ filter_map (shown_name Self.Configuration.initial) (paths reg.now)) }
         ensures ordered { IsStrictlySortedBy (slice_cmp nat_cmp) (paths reg.now) }
         ensures no_memory { IfErr result (λ error. error ≡ NamedConceptListError.NoMemory) }
     {
         Self::list_cfg(alloc, reg, &Self::Configuration::default())
     }
 
-    /// Removes the concept of this name: its paths are gone. Answers whether any was there, so `false` also where the
-    /// path of the name would be too long. On `NoMemory`, which comes only of a kind that lists first, nothing has
-    /// changed.
+    /// Removes the concept of this name: its paths are gone. Answers whether any was there, so
+    /// `false` also where the path of the name would be too long. On `NoMemory`, which comes only
+    /// of a kind that lists first, nothing has changed.
     fn remove_cfg(
         alloc: Global,
         reg: &mut Self::Names,
         name: &FileName,
         cfg: &Self::Configuration,
     ) -> Result<bool, NamedConceptRemoveError>
-        ensures found { IfOk result (λ found. found ≡ list_any (goes_with (Self.Configuration.settings cfg.now) name.now) (paths reg.old)) }
-        ensures gone { OnOk result (paths reg.new ≡ filter (λ path. not (goes_with (Self.Configuration.settings cfg.now) name.now path)) (paths reg.old)) }
-        ensures no_memory { IfErr result (λ error. IsTrue lists_first × (error ≡ NamedConceptRemoveError.NoMemory)) }
+        ensures found { IfOk result (λ found.
+            found ≡ list_any (goes_with (Self.Configuration.settings cfg.now) name.now) (paths reg.old)) }
+        ensures gone { let goes : List ℕ → Bool = goes_with (Self.Configuration.settings cfg.now) name.now in
+            OnOk result (paths reg.new ≡ filter (λ path. not (goes path)) (paths reg.old)) }
+        ensures no_memory { IfErr result (λ error.
+            IsTrue lists_first × (error ≡ NamedConceptRemoveError.NoMemory)) }
         ensures unchanged { OnErr result (paths reg.new ≡ paths reg.old) };
 
-    /// Whether the concept of this name is there, so `false` also where the path of the name would be too long.
+    /// Whether the concept of this name is there, so `false` also where the path of the name would
+    /// be too long.
     fn does_exist_cfg(
         reg: &Self::Names,
         name: &FileName,
         cfg: &Self::Configuration,
     ) -> Result<bool, NamedConceptDoesExistError>
-        ensures { result ≡ Ok (list_any (λ path. is_name name.now (shown_name (Self.Configuration.settings cfg.now) path)) (paths reg.now)) };
+        ensures { let shown : List ℕ → Option (List ℕ) = shown_name (Self.Configuration.settings cfg.now) in
+            result ≡ Ok (list_any (λ path. is_name name.now (shown path)) (paths reg.now)) };
 
     /// The names of all concepts, in the order of the bytes of their paths.
     fn list_cfg(
@@ -260,7 +277,8 @@ pub trait NamedConceptMgmt: Debug {
         reg: &Self::Names,
         cfg: &Self::Configuration,
     ) -> Result<Vec<FileName>, NamedConceptListError>
-        ensures names { IfOk result (λ list. list.items ≡ filter_map (shown_name (Self.Configuration.settings cfg.now)) (paths reg.now)) }
+        ensures names { IfOk result (λ list.
+            list.items ≡ filter_map (shown_name (Self.Configuration.settings cfg.now)) (paths reg.now)) }
         ensures ordered { IsStrictlySortedBy (slice_cmp nat_cmp) (paths reg.now) }
         ensures no_memory { IfErr result (λ error. error ≡ NamedConceptListError.NoMemory) };
 
@@ -283,5 +301,6 @@ pub trait NamedConceptMgmt: Debug {
         ensures { result ≡ Ok tt };
 
     // Where a path shows a concept, it goes with this concept.
-    ghost shown_goes: { (settings : Settings) (path name : List ℕ) → shown_name settings path ≡ Some name → goes_with settings name path ≡ true };
+    ghost shown_goes: { (settings : Settings) (path name : List ℕ) →
+        shown_name settings path ≡ Some name → goes_with settings name path ≡ true };
 }

@@ -3,7 +3,7 @@ ghost use Rattle.std.specs.Prelude.{◌≡◌, ℕ, List, codes};
 
 use crate::type_name::TypeName;
 
-/// A type with a name, in which no two stored types agree.
+/// A type with a name, by which storages tell it apart from other stored types.
 pub trait NamedType {
     // The bytes of the name.
     ghost name: { List ℕ };

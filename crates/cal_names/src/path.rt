@@ -8,8 +8,9 @@ use std::marker::Model;
 
 const MAX_LEN: usize = 768;
 
-/// The path of a directory, in at most 768 bytes: an optional `/`, and then any number of file names with `/`
-/// between each two. Contracts see the list of its bytes. Equality and order are those of the bytes.
+/// The path of a directory, in at most 768 bytes: an optional `/`, and then any number of file
+/// names with `/` between each two. Contracts see the list of its bytes. Equality and order are
+/// those of the bytes.
 #[derive(Clone, Copy, Debug, PartialEq, Eq, PartialOrd, Ord)]
 pub struct Path {
     bytes: BoundedBytes<MAX_LEN>,

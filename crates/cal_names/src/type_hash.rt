@@ -24,7 +24,8 @@ pub fn type_hash(name: &TypeName) -> [u8; TEXT_LEN]
     text
 }
 
-/// Six bits of the hash and two zero bits behind it, from bit `6 * place` on, where bit 0 is the highest.
+/// Six bits of the hash and two zero bits behind it, from bit `6 * place` on, where bit 0 is the
+/// highest.
 fn sextet(hash: &[u8; HASH_LEN], place: usize) -> u8
     requires { place < 27 }
     ensures { result ≡ number_from_digits 256 hash.now * 4 / 2 ^ (6 * (26 - place)) % 64 }

@@ -7,8 +7,8 @@ use std::marker::Model;
 
 const MAX_LEN: usize = 255;
 
-/// The name of a type: any bytes, at most 255. Contracts see the list of its bytes. Equality and order are those of
-/// the bytes.
+/// The name of a type: any bytes, at most 255. Contracts see the list of its bytes. Equality and
+/// order are those of the bytes.
 #[derive(Clone, Copy, Debug, PartialEq, Eq, PartialOrd, Ord)]
 pub struct TypeName {
     bytes: BoundedBytes<MAX_LEN>,
