@@ -1,2 +1,30 @@
 //! Names of concepts, the configurations that make paths of them, and the hash of a type's name.
 #![tactic(auto)]
+
+mod bounded_bytes;
+pub mod dynamic_storage_configuration;
+pub mod file_name;
+pub mod file_path;
+mod name_paths;
+pub mod named_concept;
+pub mod named_type;
+pub mod path;
+pub mod path_too_long;
+pub mod type_hash;
+pub mod type_name;
+
+pub use dynamic_storage_configuration::DynamicStorageConfiguration;
+pub use file_name::FileName;
+pub use file_path::FilePath;
+pub use named_concept::{
+    NamedConcept, NamedConceptBuilder, NamedConceptConfiguration, NamedConceptDoesExistError,
+    NamedConceptListError, NamedConceptMgmt, NamedConceptPathHintRemoveError,
+    NamedConceptRemoveError,
+};
+pub use named_type::NamedType;
+pub use path::Path;
+pub use path_too_long::PathTooLong;
+pub use type_name::TypeName;
+
+#[cfg(test)]
+mod tests;

@@ -1,0 +1,4 @@
+pub mod Paths
+pub mod FilePaths
+pub mod TypeHashes
+pub mod NamePaths

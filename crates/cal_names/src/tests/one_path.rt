@@ -1,0 +1,237 @@
+//! A kind of concept over a registry with room for one path, managed through its bound.
+ghost use Rattle.std.specs.Prelude.{◌≡◌, None, codes, false, refl};
+ghost use Rattle.std.specs.Option.{option_to_list};
+ghost use Rattle.cal_names.specs.Settings.{extracted_name_at};
+ghost use Rattle.cal_names.specs.NamedConceptMgmt.{is_name, is_name-same};
+
+use crate::{
+    FileName, FilePath, NamedConcept, NamedConceptBuilder, NamedConceptConfiguration,
+    NamedConceptDoesExistError, NamedConceptListError, NamedConceptMgmt,
+    NamedConceptPathHintRemoveError, NamedConceptRemoveError, Path, TypeName,
+};
+use std::alloc::Global;
+use std::process::Abort;
+use std::test::Fail;
+
+/// A configuration of a concept that stores nothing.
+#[derive(Clone, Copy, Debug)]
+struct Plain {
+    prefix: FileName,
+    suffix: FileName,
+    path_hint: Path,
+}
+
+impl Default for Plain {
+    ghost is_default = { λ c. (c.prefix ≡ codes "iox2_") × (c.suffix ≡ codes ".rx") × (c.path_hint ≡ codes "/tmp") };
+
+    fn default() -> Self {
+        Plain {
+            prefix: FileName::new(b"iox2_").unwrap(),
+            suffix: FileName::new(b".rx").unwrap(),
+            path_hint: Path::new(b"/tmp").unwrap(),
+        }
+    }
+}
+
+impl NamedConceptConfiguration for Plain {
+    ghost settings = { λ c. record { prefix = c.prefix; type_name = None; suffix = c.suffix; path_hint = c.path_hint } };
+
+    ghost initial = { record { prefix = codes "iox2_"; type_name = None; suffix = codes ".rx"; path_hint = codes "/tmp" } };
+
+    fn prefix(self, value: &FileName) -> Self {
+        Plain {
+            prefix: *value,
+            ..self
+        }
+    }
+
+    fn get_prefix(&self) -> &FileName {
+        &self.prefix
+    }
+
+    fn suffix(self, value: &FileName) -> Self {
+        Plain {
+            suffix: *value,
+            ..self
+        }
+    }
+
+    fn path_hint(self, value: &Path) -> Self {
+        Plain {
+            path_hint: *value,
+            ..self
+        }
+    }
+
+    fn get_suffix(&self) -> &FileName {
+        &self.suffix
+    }
+
+    fn get_path_hint(&self) -> &Path {
+        &self.path_hint
+    }
+
+    fn get_type_name(&self) -> Option<TypeName> {
+        None
+    }
+
+    ghost starts = { λ c default i. record { prefix = default.0 i; type_name = None; suffix = default.1 i; path_hint = default.2 i } };
+
+    ghost defaults = { (refl, refl) };
+}
+
+/// A registry with room for one path.
+type OnePath = Option<FilePath>;
+
+/// A kind of concept over such a registry.
+#[derive(Debug)]
+struct Lone;
+
+impl NamedConceptMgmt for Lone {
+    type Configuration = Plain;
+
+    type Names = OnePath;
+
+    ghost paths = { option_to_list };
+
+    ghost shown_name = { extracted_name_at };
+
+    ghost goes_with = { λ settings name path. is_name name (extracted_name_at settings path) };
+
+    ghost lists_first = { false };
+
+    fn remove_cfg(
+        _alloc: Global,
+        reg: &mut OnePath,
+        name: &FileName,
+        cfg: &Plain,
+    ) -> Result<bool, NamedConceptRemoveError> {
+        let Some(path) = *reg else {
+            return Ok(false);
+        };
+        if cfg.extract_name_from_path(&path) == Some(*name) {
+            *reg = None;
+            Ok(true)
+        } else {
+            Ok(false)
+        }
+    }
+
+    fn does_exist_cfg(
+        reg: &OnePath,
+        name: &FileName,
+        cfg: &Plain,
+    ) -> Result<bool, NamedConceptDoesExistError> {
+        match reg {
+            None => Ok(false),
+            Some(path) => Ok(cfg.extract_name_from_path(path) == Some(*name)),
+        }
+    }
+
+    fn list_cfg(
+        alloc: Global,
+        reg: &OnePath,
+        cfg: &Plain,
+    ) -> Result<Vec<FileName>, NamedConceptListError> {
+        let mut names = Vec::new(alloc);
+        if let Some(path) = reg {
+            if let Some(name) = cfg.extract_name_from_path(path) {
+                names
+                    .push(name)
+                    .map_err(|_| NamedConceptListError::NoMemory)?;
+            }
+        }
+        Ok(names)
+    }
+
+    fn remove_path_hint(_value: &Path) -> Result<(), NamedConceptPathHintRemoveError> {
+        Ok(())
+    }
+
+    ghost shown_goes = { λ settings path name shown. is_name-same name (extracted_name_at settings path) shown };
+}
+
+/// A concept of this kind, which is its own builder.
+#[derive(Debug, Drop)]
+struct Built {
+    name: FileName,
+    config: Plain,
+}
+
+impl NamedConceptBuilder<Lone> for Built {
+    ghost concept_name = { λ b. b.name };
+
+    ghost concept_settings = { λ b. record { prefix = b.config.prefix; type_name = None; suffix = b.config.suffix; path_hint = b.config.path_hint } };
+
+    fn new(name: &FileName) -> Self {
+        Built {
+            name: *name,
+            config: Plain::default(),
+        }
+    }
+
+    fn config(self, config: &Plain) -> Self {
+        let Built { name, config: _ } = self;
+        Built {
+            name,
+            config: *config,
+        }
+    }
+}
+
+impl NamedConcept for Built {
+    ghost concept_name = { λ b. b.name };
+
+    fn name(&self) -> &FileName {
+        &self.name
+    }
+}
+
+/// All calls of the management, through its bound.
+fn manages<M: NamedConceptMgmt<Names = OnePath>>(
+    rt: &impl Abort,
+    alloc: Global,
+) -> Result<(), Fail> {
+    let config = M::Configuration::default();
+    let mem = FileName::new(b"mem").ok_or("a file name")?;
+    let other = FileName::new(b"other").ok_or("a file name")?;
+    let mut reg = Some(config.path_for(&mem)?);
+    assert_eq!(rt; M::does_exist(&reg, &mem), Ok(true));
+    assert_eq!(rt; M::does_exist(&reg, &other), Ok(false));
+    let names = M::list(alloc, &reg)?;
+    assert_eq!(rt; names.as_slice(), [mem].as_slice());
+    assert_eq!(rt; M::remove(alloc, &mut reg, &other), Ok(false));
+    assert_eq!(rt; M::remove(alloc, &mut reg, &mem), Ok(true));
+    assert_eq!(rt; reg, None);
+    assert_eq!(rt; M::remove_path_hint(&M::default_path_hint()), Ok(()));
+    assert_eq!(rt; M::default_prefix(), *config.get_prefix());
+    assert_eq!(rt; M::default_path_hint(), *config.get_path_hint());
+    Ok(())
+}
+
+#[test]
+fn one_path_is_managed(rt: HostRuntime) -> Result<(), Fail> {
+    manages::<Lone>(&rt, rt.alloc())
+}
+
+#[test]
+fn nothing_stands_between_prefix_and_name(rt: HostRuntime) -> Result<(), Fail> {
+    let mem = FileName::new(b"mem").ok_or("a file name")?;
+    let path = Plain::default().path_for(&mem)?;
+    assert_eq!(rt; path.as_bytes(), b"/tmp/iox2_mem.rx".as_slice());
+    Ok(())
+}
+
+fn is_built_with_its_name<B: NamedConceptBuilder<Lone> + NamedConcept + Drop>(
+    name: &FileName,
+) -> bool {
+    let built = B::new(name).config(&Plain::default());
+    built.name() == name
+}
+
+#[test]
+fn a_concept_has_its_name(rt: HostRuntime) -> Result<(), Fail> {
+    let mem = FileName::new(b"mem").ok_or("a file name")?;
+    assert!(rt; is_built_with_its_name::<Built>(&mem));
+    Ok(())
+}

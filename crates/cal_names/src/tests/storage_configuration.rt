@@ -1,0 +1,164 @@
+//! A small configuration that implements both configuration traits, used through its bounds.
+ghost use Rattle.std.specs.Prelude.{◌≡◌, Some, codes, refl};
+
+use crate::{
+    DynamicStorageConfiguration, FileName, FilePath, NamedConceptConfiguration, Path, TypeName,
+};
+use std::process::Abort;
+use std::test::Fail;
+
+/// A configuration of a storage of one type.
+#[derive(Clone, Copy, Debug)]
+struct Configuration {
+    prefix: FileName,
+    suffix: FileName,
+    path_hint: Path,
+    type_name: TypeName,
+}
+
+impl Default for Configuration {
+    ghost is_default = { λ c. (c.prefix ≡ codes "iox2_") × (c.suffix ≡ codes ".dyn") × (c.path_hint ≡ codes "/tmp") × (c.type_name ≡ codes "abc") };
+
+    fn default() -> Self {
+        Configuration {
+            prefix: FileName::new(b"iox2_").unwrap(),
+            suffix: FileName::new(b".dyn").unwrap(),
+            path_hint: Path::new(b"/tmp").unwrap(),
+            type_name: TypeName::new(b"abc").unwrap(),
+        }
+    }
+}
+
+impl NamedConceptConfiguration for Configuration {
+    ghost settings = { λ c. record { prefix = c.prefix; type_name = Some c.type_name; suffix = c.suffix; path_hint = c.path_hint } };
+
+    ghost initial = { record { prefix = codes "iox2_"; type_name = Some (codes "abc"); suffix = codes ".dyn"; path_hint = codes "/tmp" } };
+
+    fn prefix(self, value: &FileName) -> Self {
+        Configuration {
+            prefix: *value,
+            ..self
+        }
+    }
+
+    fn get_prefix(&self) -> &FileName {
+        &self.prefix
+    }
+
+    fn suffix(self, value: &FileName) -> Self {
+        Configuration {
+            suffix: *value,
+            ..self
+        }
+    }
+
+    fn path_hint(self, value: &Path) -> Self {
+        Configuration {
+            path_hint: *value,
+            ..self
+        }
+    }
+
+    fn get_suffix(&self) -> &FileName {
+        &self.suffix
+    }
+
+    fn get_path_hint(&self) -> &Path {
+        &self.path_hint
+    }
+
+    fn get_type_name(&self) -> Option<TypeName> {
+        Some(self.type_name)
+    }
+
+    ghost starts = { λ c default i. record { prefix = default.0 i; type_name = Some (default.3 i); suffix = default.1 i; path_hint = default.2 i } };
+
+    ghost defaults = { (refl, refl) };
+}
+
+impl DynamicStorageConfiguration for Configuration {
+    fn type_name(&self) -> &TypeName {
+        &self.type_name
+    }
+}
+
+const ABC_MEM: &[u8] = b"/tmp/iox2_qZk-NkcGgWq6PiVxeFDCbJzQ2J0_mem.dyn";
+
+/// Both configuration traits, used through their bounds alone.
+fn makes_and_extracts<C: DynamicStorageConfiguration>(
+    rt: &impl Abort,
+    config: &C,
+) -> Result<(), Fail> {
+    let name = FileName::new(b"mem").ok_or("a file name")?;
+    let path = config.path_for(&name)?;
+    assert_eq!(rt; path.as_bytes(), ABC_MEM);
+    assert_eq!(rt; config.path_for_with_type(&name)?, path);
+    assert_eq!(rt; config.extract_name_from_path(&path), Some(name));
+    let elsewhere = Path::new(b"/tmp/other").ok_or("a path")?;
+    assert_eq!(rt;
+        config.path_hint(&elsewhere).extract_name_from_path(&path),
+        None
+    );
+    let prefix = FileName::new(b"my-").ok_or("a file name")?;
+    let suffix = FileName::new(b".shm").ok_or("a file name")?;
+    let other = config
+        .prefix(&prefix)
+        .suffix(&suffix)
+        .path_hint(&Path::new(b"").ok_or("a path")?);
+    assert_eq!(rt;
+        other.path_for(&name)?.as_bytes(),
+        b"my-qZk-NkcGgWq6PiVxeFDCbJzQ2J0_mem.shm".as_slice()
+    );
+    Ok(())
+}
+
+#[test]
+fn a_configuration_makes_paths_and_extracts_names(rt: HostRuntime) -> Result<(), Fail> {
+    makes_and_extracts(&rt, &Configuration::default())
+}
+
+#[test]
+fn a_name_may_be_too_long_for_a_path(rt: HostRuntime) -> Result<(), Fail> {
+    let config = Configuration::default();
+    let long = [b'a'; 255];
+    for (len, fits) in [(1, true), (218, true), (219, false), (255, false)] {
+        let name = FileName::new(&long[..len]).ok_or("a file name")?;
+        assert_eq!(rt; config.path_for(&name).is_ok(), fits, "at {len}");
+        assert_eq!(rt; config.path_for_with_type(&name).is_ok(), fits, "at {len}");
+    }
+    Ok(())
+}
+
+#[test]
+fn a_file_name_may_stand_for_no_name(rt: HostRuntime) -> Result<(), Fail> {
+    let config = Configuration::default();
+    for (file, expected) in [
+        ("iox2_qZk-NkcGgWq6PiVxeFDCbJzQ2J0_mem.dyn", "mem"),
+        (
+            "iox2_qZk-NkcGgWq6PiVxeFDCbJzQ2J0_iox2_.dyn.dyn",
+            "iox2_.dyn",
+        ),
+        ("iox2_.dyn", ""),
+        ("iox2_mem.dyn", ""),
+        ("iox2_qZk-NkcGgWq6PiVxeFDCbJzQ2J0_.dyn", ""),
+        ("iox2_qZk-NkcGgWq6PiVxeFDCbJzQ2J0_..dyn", ""),
+        ("iox2_qZk-NkcGgWq6PiVxeFDCbJzQ2J0_...dyn", ""),
+        ("iox2_qZk-NkcGgWq6PiVxeFDCbJzQ2J0_mem.shm", ""),
+        ("iox2_qZk-NkcGgWq6PiVxeFDCbJzQ2J0-mem.dyn", ""),
+        ("iox3_qZk-NkcGgWq6PiVxeFDCbJzQ2J0_mem.dyn", ""),
+    ] {
+        let file_name = FileName::new(file.as_bytes()).ok_or("a file name")?;
+        let name = FileName::new(expected.as_bytes());
+        assert_eq!(rt;
+            config.extract_name_from_file(&file_name),
+            name,
+            "at {file}"
+        );
+        assert_eq!(rt;
+            config.extract_name_from_file_with_type(&file_name),
+            name,
+            "at {file}"
+        );
+    }
+    Ok(())
+}
