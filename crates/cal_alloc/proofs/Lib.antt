@@ -2,3 +2,5 @@ pub mod Marks
 pub mod Padding
 pub mod PoolFacts
 pub mod PoolLemmas
+pub mod Powers
+pub mod Serving

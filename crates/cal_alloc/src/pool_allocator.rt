@@ -1,20 +1,20 @@
 //! The pool cuts its memory into equal buckets and hands each out whole.
 
-ghost use Rattle.std.specs.Prelude.{◌≡◌, ◌<◌, ◌^◌, true, not, IsTrue, IsFalse, SomeIff, position, refl};
-ghost use Rattle.std.proofs.Common.{ap};
-ghost use Rattle.cal_alloc.specs.Growth.{padded_size};
-ghost use Rattle.cal_alloc.specs.Pool.{Pool, pool_fits, buckets_within, new_pool, is_full, number_of_used, pool_refusal, GivesFreeBucket, IsUsedBucket, given_back};
+ghost use Rattle.std.specs.Prelude.{◌≡◌, ◌<◌, ◌^◌, true, not, IsTrue, IsFalse, SomeIff, position, refl, if◌then◌else◌};
+ghost use Rattle.cal_alloc.specs.Growth.{padded_size, grown_buckets, raised_count};
+ghost use Rattle.cal_alloc.specs.Hints.{pool_setup_hint, pool_resize_hint};
+ghost use Rattle.cal_alloc.specs.Pool.{IsSoundPool, pool_fits, buckets_within, new_pool, is_full, number_of_used, pool_properties, pool_refusal, GivesFreeBucket, IsUsedBucket, IsInUsedBucket, given_back, FreesBucket};
+ghost use Rattle.cal_alloc.specs.PoolLaws.{pool_new_uninit_is_new, pool_new_uninit_is_free, pool_allocates_properties, pool_allocates_served, pool_allocates_placed, pool_allocates_bytes, pool_allocates_out, pool_allocates_others_out, pool_deallocates_properties, pool_deallocates_bytes, pool_deallocates_others_out, pool_refused_empty};
 
+use crate::allocation_strategy::AllocationStrategy;
+use crate::growth::{raised_count, raised_size};
 use crate::layout::{Layout, checked_next_multiple_of};
 use crate::pointer_offset::PointerOffset;
 use crate::shm_allocator::{
-    ShmAllocationError, ShmAllocator, ShmAllocatorConfig, ShmAllocatorInitError,
+    MAX_MEMORY_SIZE, SharedMemorySetupHint, ShmAllocationError, ShmAllocator, ShmAllocatorConfig, ShmAllocatorInitError, SizeOutOfRange,
 };
 use std::alloc::Global;
 use std::marker::Model;
-
-/// The memory of an allocator has at most that many bytes.
-const MAX_MEMORY_SIZE: usize = 1 << 56;
 
 const MAX_NUMBER_OF_BUCKETS: usize = (1 << 32) - 1;
 
@@ -113,10 +113,38 @@ impl PoolAllocator {
         PointerOffset::new(bucket * self.bucket_size)
     }
 
+    /// The layout of the buckets that the strategy takes next; `None` where their size would be 2^64 or more.
+    fn raised_layout(&self, layout: Layout, strategy: AllocationStrategy) -> Option<Layout>
+        ensures sound { IsSoundPool self.now }
+        ensures value { let grown = grown_buckets strategy self.now.buckets (is_full self.now) layout.size layout.alignment in
+            SomeIff result (grown.size < 2 ^ 64) (record { size = grown.size; alignment = grown.alignment }) }
+    {
+        if strategy == AllocationStrategy::Static {
+            return Layout::new(self.bucket_size, self.alignment);
+        }
+        let alignment = self.alignment.max(layout.align());
+        if layout.size() <= self.bucket_size && layout.align() <= self.alignment {
+            return Layout::new(self.bucket_size, alignment);
+        }
+        let size = raised_size(strategy, self.bucket_size.max(layout.size()), alignment)?;
+        Layout::new(size, alignment)
+    }
+
+    /// The number of buckets that the strategy takes next.
+    fn raised_count(&self, strategy: AllocationStrategy) -> usize
+        ensures { result ≡ (if is_full self.now then raised_count strategy self.now.buckets.count else self.now.buckets.count) }
+    {
+        if self.number_of_used == self.number_of_buckets {
+            raised_count(strategy, self.number_of_buckets)
+        } else {
+            self.number_of_buckets as usize
+        }
+    }
+
     /// Takes back the bucket that starts at the offset.
     pub fn deallocate_bucket(&mut self, offset: PointerOffset)
         requires { IsUsedBucket self.old offset }
-        ensures { self.new ≡ given_back self.old offset }
+        ensures { FreesBucket self.old offset self.new }
     {
         let bucket = offset.offset() / self.bucket_size;
         let Some(used) = &mut self.used else {
@@ -130,37 +158,91 @@ impl PoolAllocator {
 impl ShmAllocator for PoolAllocator {
     type Configuration = Config;
 
+    ghost unique_id = { 0 };
+
+    ghost growth_raises_alignment = { true };
+
     ghost fits = { λ memory_size config. pool_fits memory_size config.bucket_layout };
 
     ghost management_size = { λ memory_size config. (buckets_within memory_size config.bucket_layout).count };
 
     ghost new_uninit = { λ alignment memory_size config. new_pool alignment memory_size config.bucket_layout };
 
-    ghost is_ready = { λ pool. pool.is_ready };
+    ghost initial_setup_hint = { pool_setup_hint };
 
-    ghost readied = { λ pool. record pool { is_ready = true } };
+    ghost properties = { pool_properties };
 
-    ghost memory_alignment = { λ pool. pool.memory_alignment };
-
-    ghost max_alignment = { λ pool. pool.buckets.alignment };
-
-    ghost unique_id = { 0 };
-
-    ghost refusal = { pool_refusal };
-
-    ghost Allocates = { λ old _ place new. GivesFreeBucket old place new };
+    ghost IsTaken = { IsInUsedBucket };
 
     ghost IsOut = { IsUsedBucket };
 
-    ghost given_back = { given_back };
+    ghost refusal = { pool_refusal };
 
-    ghost new_uninit_unready = { λ _ _ _. refl };
+    ghost resize_hint = { pool_resize_hint };
 
-    ghost readied_ready = { λ _. refl };
+    ghost readied = { λ pool. record pool { is_ready = true } };
 
-    ghost allocates_keeps_ready = { λ old layout place new gives. ap (λ (pool : Pool). pool.is_ready) gives.after };
+    ghost Allocates = { λ old _ place new. GivesFreeBucket old place new };
 
-    ghost given_back_keeps_ready = { λ _ _. refl };
+    ghost IsSkipped = { λ _ _ _. ⊥ };
+
+    ghost Deallocates = { FreesBucket };
+
+    ghost new_uninit_is_new = { λ alignment size config. pool_new_uninit_is_new alignment size config.bucket_layout };
+
+    ghost new_uninit_is_free = { λ alignment size config. pool_new_uninit_is_free alignment size config.bucket_layout };
+
+    ghost readied_properties = { λ _. refl };
+
+    ghost readied_is_free = { λ _ _. (λ taken. taken, λ taken. taken) };
+
+    ghost allocates_properties = { λ old _ place new. pool_allocates_properties old place new };
+
+    ghost allocates_served = { pool_allocates_served };
+
+    ghost allocates_placed = { λ old _ place new. pool_allocates_placed old place new };
+
+    ghost allocates_bytes = { λ old _ place new. pool_allocates_bytes old place new };
+
+    ghost allocates_out = { λ old _ place new. pool_allocates_out old place new };
+
+    ghost allocates_others_out = { λ old _ place new. pool_allocates_others_out old place new };
+
+    ghost out_is_taken = { λ old place out. out.is_used };
+
+    ghost deallocates_properties = { pool_deallocates_properties };
+
+    ghost deallocates_bytes = { λ old place new frees _. pool_deallocates_bytes old place new frees };
+
+    ghost deallocates_others_out = { pool_deallocates_others_out };
+
+    ghost refused_empty = { pool_refused_empty };
+
+    fn resize_hint(
+        &self,
+        layout: Layout,
+        strategy: AllocationStrategy,
+    ) -> Result<SharedMemorySetupHint<Config>, SizeOutOfRange> {
+        let grown = self.raised_layout(layout, strategy).ok_or(SizeOutOfRange)?;
+        Self::initial_setup_hint(grown, self.raised_count(strategy))
+    }
+
+    fn initial_setup_hint(
+        max_chunk_layout: Layout,
+        max_number_of_chunks: usize,
+    ) -> Result<SharedMemorySetupHint<Config>, SizeOutOfRange> {
+        let alignment = max_chunk_layout.align();
+        let size = checked_next_multiple_of(max_chunk_layout.size(), alignment).ok_or(SizeOutOfRange)?;
+        let payload_size = size.checked_mul(max_number_of_chunks).ok_or(SizeOutOfRange)?;
+        if MAX_MEMORY_SIZE < payload_size || MAX_NUMBER_OF_BUCKETS < max_number_of_chunks {
+            return Err(SizeOutOfRange);
+        }
+        let bucket_layout = Layout::new(size, alignment).unwrap();
+        Ok(SharedMemorySetupHint {
+            payload_size,
+            config: Config { bucket_layout },
+        })
+    }
 
     fn fits(memory_size: usize, config: &Config) -> bool {
         let layout = config.bucket_layout;
@@ -204,6 +286,10 @@ impl ShmAllocator for PoolAllocator {
 
     fn unique_id() -> u8 {
         0
+    }
+
+    fn growth_raises_alignment() -> bool {
+        true
     }
 
     fn max_alignment(&self) -> usize {
