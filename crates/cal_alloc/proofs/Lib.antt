@@ -1,3 +1,4 @@
+pub mod BumpServing
 pub mod Marks
 pub mod Padding
 pub mod PoolFacts

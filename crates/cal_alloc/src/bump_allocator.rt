@@ -1,6 +1,6 @@
 //! The bump allocator hands its memory out from the front on, and takes nothing back.
 
-ghost use Rattle.std.specs.Prelude.{◌≡◌, ◌≢◌, ◌<◌, ◌^◌, ◌*◌, ◌+◌, true, false, nat_le, IsErrOf, OnOk, OnErr, OkIff, ◌↔◌, refl};
+ghost use Rattle.std.specs.Prelude.{◌≡◌, ◌≢◌, ◌<◌, ◌^◌, ◌*◌, ◌+◌, true, false, nat_le, IsErrOf, OnOk, OnErr, SomeIff, ◌↔◌, refl};
 ghost use Rattle.std.specs.Result.{result_ok};
 ghost use Rattle.std.proofs.Common.{ap};
 ghost use Rattle.cal_alloc.specs.Bump.{new_bump, bump_refusal, GivesNextPlace, IsBelowUsed, IsSkippedBefore, bump_properties};
@@ -34,16 +34,15 @@ fn hint(payload_size: usize) -> Result<SharedMemorySetupHint<Config>, SizeOutOfR
     })
 }
 
-/// The payload size that a strategy takes next; `SizeOutOfRange` from 2^64 on.
-fn raised_payload(strategy: AllocationStrategy, payload_size: usize, size: usize) -> Result<usize, SizeOutOfRange>
-    ensures { OkIff result (raised_payload strategy payload_size size < 2 ^ 64) (raised_payload strategy payload_size size) }
+/// The payload size that a strategy takes next; `None` from 2^64 on.
+fn raised_payload(strategy: AllocationStrategy, payload_size: usize, size: usize) -> Option<usize>
+    ensures { SomeIff result (raised_payload strategy payload_size size < 2 ^ 64) (raised_payload strategy payload_size size) }
 {
-    let raised = match strategy {
+    match strategy {
         AllocationStrategy::BestFit => payload_size.checked_add(size),
-        AllocationStrategy::PowerOfTwo => payload_size.checked_add(size).and_then(least_power_of_two),
+        AllocationStrategy::PowerOfTwo => least_power_of_two(payload_size.checked_add(size)?),
         AllocationStrategy::Static => Some(payload_size),
-    };
-    raised.ok_or(SizeOutOfRange)
+    }
 }
 
 /// A bump allocator has nothing to choose.
@@ -152,7 +151,7 @@ impl ShmAllocator for BumpAllocator {
         if layout.size() < self.total - self.used {
             return hint(self.total);
         }
-        hint(raised_payload(strategy, self.total, layout.size())?)
+        hint(raised_payload(strategy, self.total, layout.size()).ok_or(SizeOutOfRange)?)
     }
 
     fn initial_setup_hint(
