@@ -141,6 +141,8 @@ impl ShmAllocator for BumpAllocator {
 
     ghost deallocates_others_out = { λ old place new same other _ out. bump_stays_out old new same other out };
 
+    ghost hint_of_one_byte = { refl };
+
     ghost refused_empty = { bump_refused_empty };
 
     fn resize_hint(

@@ -216,6 +216,8 @@ impl ShmAllocator for PoolAllocator {
 
     ghost deallocates_others_out = { pool_deallocates_others_out };
 
+    ghost hint_of_one_byte = { refl };
+
     ghost refused_empty = { pool_refused_empty };
 
     fn resize_hint(

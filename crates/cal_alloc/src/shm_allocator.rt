@@ -3,7 +3,7 @@
 //! changes nothing, giving a chunk back frees at most that chunk's own bytes, and memory that is set up as `resize_hint`
 //! proposes serves the layout that was asked for.
 
-ghost use Rattle.std.specs.Prelude.{◌≡◌, ◌≢◌, ◌<◌, ◌≤◌, ℕ, true, Bool, Option, Some, None, IsTrue, IsFalse, OnOk, OnErr, IfOk, IsErrOf, ◌↔◌};
+ghost use Rattle.std.specs.Prelude.{◌≡◌, ◌≢◌, ◌<◌, ◌≤◌, ℕ, true, Bool, Option, Some, None, IsTrue, IsFalse, OnOk, OnErr, IfOk, IsErrOf, IsSomeAnd, ◌↔◌};
 ghost use Rattle.std.specs.Result.{result_ok, result_err};
 ghost use Rattle.cal_alloc.specs.Chunks.{Properties, chunk_size, TakesChunk, FreesChunk, IsPlaced, IsNew};
 ghost use Rattle.cal_alloc.specs.PointerOffset.{offset_of};
@@ -222,6 +222,9 @@ pub trait ShmAllocator: Debug + Drop {
 
     ghost deallocates_others_out: { (old : Self) (place : ℕ) (new : Self) → Deallocates old place new →
         (other : ℕ) → offset_of other ≢ offset_of place → IsOut old other → IsOut new other };
+
+    // The memory for one chunk of one byte is one byte.
+    ghost hint_of_one_byte: { IsSomeAnd (initial_setup_hint (record { size = 1; alignment = 1 }) 1) (λ hint. hint.payload_size ≡ 1) };
 
     // Only an empty chunk is refused for its size.
     ghost refused_empty: { (old : Self) (layout : SizeAndAlignment) → refusal old layout ≡ Some ShmAllocationError.SizeIsZero → layout.size ≡ 0 };
