@@ -3,5 +3,6 @@ pub mod Marks
 pub mod Padding
 pub mod PoolFacts
 pub mod PoolLemmas
+pub mod PoolServing
 pub mod Powers
-pub mod Serving
+pub mod Results

@@ -41,6 +41,10 @@ pub record GivesNextPlace (old : Bump) (layout : SizeAndAlignment) (place : ℕ)
 abbrev pub IsBelowUsed : Bump → ℕ → Type 0
 IsBelowUsed bump byte = byte < bump.used
 
+-- the first byte of a place lies there
+abbrev pub IsOutBelowUsed : Bump → ℕ → Type 0
+IsOutBelowUsed bump place = IsBelowUsed bump (offset_of place)
+
 -- a byte lies between the used length and the place of the next chunk
 abbrev pub IsSkippedBefore : Bump → ℕ → ℕ → Type 0
 IsSkippedBefore bump place byte = (bump.used ≤ byte) × (byte < offset_of place)

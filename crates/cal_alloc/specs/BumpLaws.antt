@@ -1,19 +1,25 @@
 -- The laws of allocators, at a bump allocator.
 use Rattle.std.proofs.Common.{◌≡◌, ℕ, ◌+◌, ◌*◌, ◌/◌, ◌%◌, ◌<◌, ◌≤◌, Bool, true, false, nat_lt, Option, Some, None, refl, sym, ◌∙◌, ap, subst, arith, ◌⊎◌, inl, inr}
 use Rattle.std.proofs.lemmas.Bool.{cases_lt}
-use Rattle.cal_alloc.specs.Chunks.{chunk_size, IsInChunk, TakesChunk, FreesChunk, IsPlaced, IsNew}
+use Rattle.cal_alloc.specs.Chunks.{chunk_size, IsInChunk, TakesChunk, FreesChunk, IsNew, IsReadied, IsAllocation, IsDeallocation}
 use Rattle.cal_alloc.specs.PointerOffset.{pointer_offset, offset_of, segment_of}
 use Rattle.cal_alloc.specs.SizeAndAlignment.{SizeAndAlignment}
-use Rattle.cal_alloc.specs.Bump.{Bump, new_bump, next_place, bump_refusal, bump_properties, GivesNextPlace, IsBelowUsed, IsSkippedBefore}
+use Rattle.cal_alloc.specs.Bump.{Bump, new_bump, next_place, bump_refusal, bump_properties, GivesNextPlace, IsBelowUsed, IsOutBelowUsed, IsSkippedBefore}
 use Rattle.cal_alloc.specs.declared.shm_allocator.ShmAllocationError.TheVariants.{SizeIsZero}
 
 -- ---- a new bump allocator
 
-pub bump_new_uninit_is_new : (memory_alignment memory_size : ℕ) → IsNew (bump_properties (new_bump memory_alignment memory_size)) memory_alignment memory_size
-bump_new_uninit_is_new memory_alignment memory_size = record { total = omega arith; alignment = refl; not_ready = refl }
+pub new_bump-IsNew : (memory_alignment memory_size : ℕ) → IsNew (bump_properties (new_bump memory_alignment memory_size)) (IsBelowUsed (new_bump memory_alignment memory_size)) memory_alignment memory_size
+new_bump-IsNew memory_alignment memory_size = record {
+  total = omega arith;
+  alignment = refl;
+  not_ready = refl;
+  free = λ byte below. omega arith;
+}
 
-pub bump_new_uninit_is_free : (memory_alignment memory_size : ℕ) (byte : ℕ) → ¬ IsBelowUsed (new_bump memory_alignment memory_size) byte
-bump_new_uninit_is_free memory_alignment memory_size byte below = omega arith
+-- to make a bump allocator ready leaves its used length
+pub readied_bump-IsReadied : (old : Bump) → IsReadied (bump_properties old) (bump_properties (record old { is_ready = true })) (IsBelowUsed old) (IsBelowUsed (record old { is_ready = true }))
+readied_bump-IsReadied old = record { properties = refl; bytes = λ byte. (λ below. below, λ below. below) }
 
 -- ---- a chunk that is given out
 
@@ -33,23 +39,9 @@ given_start old layout place new gives = let at_start = gives.at_start in (omega
 pub given_end : (old : Bump) (layout : SizeAndAlignment) (place : ℕ) (new : Bump) → GivesNextPlace old layout place new → new.used ≡ next_place old layout + layout.size
 given_end old layout place new gives = ap (λ (bump : Bump). bump.used) gives.after
 
-pub bump_allocates_properties : (old : Bump) (layout : SizeAndAlignment) (place : ℕ) (new : Bump) → GivesNextPlace old layout place new → bump_properties new ≡ bump_properties old
-bump_allocates_properties old layout place new gives = ap bump_properties gives.after
-
-pub bump_allocates_served : (old : Bump) (layout : SizeAndAlignment) → bump_refusal old layout ≡ None → layout.size ≤ chunk_size (bump_properties old) layout
-bump_allocates_served old layout served = omega arith
-
-pub bump_allocates_placed : (old : Bump) (layout : SizeAndAlignment) (place : ℕ) (new : Bump) → GivesNextPlace old layout place new → IsPlaced place (chunk_size (bump_properties old) layout) (bump_properties old).total
-bump_allocates_placed old layout place new gives = record {
-  segment = rw gives.at_start (omega arith);
-  within =
-      let start = given_start old layout place new gives in
-      let fits = served-Fits old layout gives.served in
-      omega (arith, start.0, fits.within);
-}
-
-pub bump_allocates_bytes : (old : Bump) (layout : SizeAndAlignment) (place : ℕ) (new : Bump) → GivesNextPlace old layout place new → TakesChunk (IsBelowUsed old) (IsBelowUsed new) (IsSkippedBefore old place) place (chunk_size (bump_properties old) layout)
-bump_allocates_bytes old layout place new gives =
+-- its bytes
+pub given_bytes : (old : Bump) (layout : SizeAndAlignment) (place : ℕ) (new : Bump) → GivesNextPlace old layout place new → TakesChunk (IsBelowUsed old) (IsBelowUsed new) (IsSkippedBefore old place) place (chunk_size (bump_properties old) layout)
+given_bytes old layout place new gives =
     let start = given_start old layout place new gives in
     let end = given_end old layout place new gives in
     record {
@@ -65,29 +57,35 @@ bump_allocates_bytes old layout place new gives =
     by_cases byte start end outside kept below (inr behind) (inl before) = absurd (kept (behind, before))
     by_cases byte start end outside kept below (inr behind) (inr from_start) = absurd (outside (from_start, omega (arith, start, end, below)))
 
-pub bump_allocates_out : (old : Bump) (layout : SizeAndAlignment) (place : ℕ) (new : Bump) → GivesNextPlace old layout place new → IsBelowUsed new (offset_of place)
-bump_allocates_out old layout place new gives =
+pub GivesNextPlace-IsAllocation : (old : Bump) (layout : SizeAndAlignment) (place : ℕ) (new : Bump) → GivesNextPlace old layout place new → IsAllocation (bump_properties old) (bump_properties new) (IsBelowUsed old) (IsBelowUsed new) (IsOutBelowUsed old) (IsOutBelowUsed new) (IsSkippedBefore old place) layout place
+GivesNextPlace-IsAllocation old layout place new gives =
     let start = given_start old layout place new gives in
+    let end = given_end old layout place new gives in
     let fits = served-Fits old layout gives.served in
-    omega (arith, start.0, given_end old layout place new gives, fits.not_empty)
-
-pub bump_allocates_others_out : (old : Bump) (layout : SizeAndAlignment) (place : ℕ) (new : Bump) → GivesNextPlace old layout place new → (other : ℕ) → IsBelowUsed old (offset_of other) → IsBelowUsed new (offset_of other)
-bump_allocates_others_out old layout place new gives other out =
-    let start = given_start old layout place new gives in
-    omega (arith, start.1, given_end old layout place new gives, out)
+    record {
+      properties = ap bump_properties gives.after;
+      segment = rw gives.at_start (omega arith);
+      within = omega (arith, start.0, fits.within);
+      bytes = given_bytes old layout place new gives;
+      out = omega (arith, start.0, end, fits.not_empty);
+      others_out = λ other out. omega (arith, start.1, end, out);
+    }
 
 -- ---- a chunk that is given back
 
-pub bump_deallocates_bytes : (old : Bump) (place : ℕ) (new : Bump) → new ≡ old → (layout : SizeAndAlignment) → FreesChunk (IsBelowUsed old) (IsBelowUsed new) place (chunk_size (bump_properties old) layout)
-bump_deallocates_bytes old place new same layout = record {
-  others_taken = λ byte outside below. rw same below;
-  no_more = λ byte below. rw same at below;
+pub same-IsDeallocation : (old : Bump) (place : ℕ) (new : Bump) → new ≡ old → IsDeallocation (bump_properties old) (bump_properties new) (IsBelowUsed old) (IsBelowUsed new) (IsOutBelowUsed old) (IsOutBelowUsed new) place
+same-IsDeallocation old place new same = record {
+  properties = ap bump_properties same;
+  bytes = λ layout. record { others_taken = λ byte outside below. rw same below; no_more = λ byte below. rw same at below };
+  others_out = λ other apart out. rw same out;
 }
-
-pub bump_stays_out : (old new : Bump) → new ≡ old → (other : ℕ) → IsBelowUsed old (offset_of other) → IsBelowUsed new (offset_of other)
-bump_stays_out old new same other out = rw same out
 
 -- ---- refusals
 
+-- a chunk that is given for a layout is as large
+pub bump_served : (old : Bump) (layout : SizeAndAlignment) → bump_refusal old layout ≡ None → layout.size ≤ chunk_size (bump_properties old) layout
+bump_served old layout served = omega arith
+
+-- where a layout is refused for being empty, it is
 pub bump_refused_empty : (old : Bump) (layout : SizeAndAlignment) → bump_refusal old layout ≡ Some SizeIsZero → layout.size ≡ 0
 bump_refused_empty old layout refused = grind arith

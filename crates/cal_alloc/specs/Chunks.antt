@@ -1,6 +1,6 @@
 -- What any allocator does to the bytes of its memory. A byte is taken from when a chunk that holds it is given out until that
 -- chunk is given back.
-use Rattle.std.specs.Prelude.{ℕ, ◌+◌, ◌<◌, ◌≤◌, ◌≡◌, IsFalse, Bool, Option, Some, None}
+use Rattle.std.specs.Prelude.{ℕ, ◌+◌, ◌<◌, ◌≤◌, ◌≡◌, ◌≢◌, ◌↔◌, true, IsFalse, Bool, Option, Some, None}
 use Rattle.cal_alloc.specs.SizeAndAlignment.{SizeAndAlignment}
 use Rattle.cal_alloc.specs.PointerOffset.{offset_of, segment_of}
 
@@ -26,8 +26,8 @@ chunk_size properties layout = size_of_chunk properties.chunk_size layout
 abbrev pub IsInChunk : ℕ → ℕ → ℕ → Type 0
 IsInChunk place size byte = (offset_of place ≤ byte) × (byte < offset_of place + size)
 
--- A chunk was given out: its bytes weren't taken before and are taken after, and others are as they were, but for those that
--- are skipped so that the chunk is aligned, which weren't taken before.
+-- The bytes of a chunk that was given out weren't taken before and are taken after. Others are as they were, but for those
+-- that are skipped so that the chunk is aligned, which weren't taken before.
 pub record TakesChunk (TakenBefore TakenAfter IsSkipped : ℕ → Type 0) (place size : ℕ) : Type 0 where
   pub was_free : (byte : ℕ) → IsInChunk place size byte → ¬ TakenBefore byte
   pub is_taken : (byte : ℕ) → IsInChunk place size byte → TakenAfter byte
@@ -35,18 +35,35 @@ pub record TakesChunk (TakenBefore TakenAfter IsSkipped : ℕ → Type 0) (place
   pub others_free : (byte : ℕ) → ¬ IsInChunk place size byte → ¬ IsSkipped byte → TakenAfter byte → TakenBefore byte
   pub skipped_free : (byte : ℕ) → IsSkipped byte → ¬ TakenBefore byte
 
--- A chunk was given back: of the bytes that were taken at most its own are free now, and no other byte is taken.
+-- Of the bytes that were taken before a chunk was given back at most its own are free after, and no other byte is taken.
 pub record FreesChunk (TakenBefore TakenAfter : ℕ → Type 0) (place size : ℕ) : Type 0 where
   pub others_taken : (byte : ℕ) → ¬ IsInChunk place size byte → TakenBefore byte → TakenAfter byte
   pub no_more : (byte : ℕ) → TakenAfter byte → TakenBefore byte
 
--- a chunk lies in segment 0, and within the bytes that its allocator manages
-pub record IsPlaced (place size total : ℕ) : Type 0 where
-  pub segment : segment_of place ≡ 0
-  pub within : offset_of place + size ≤ total
-
--- a new allocator manages no more than the memory that it was made for, and `init` is still to be called
-pub record IsNew (properties : Properties) (memory_alignment memory_size : ℕ) : Type 0 where
+-- a new allocator: it manages no more than the memory that it was made for, no byte is taken, and `init` is still to be called
+pub record IsNew (properties : Properties) (Taken : ℕ → Type 0) (memory_alignment memory_size : ℕ) : Type 0 where
   pub total : properties.total ≤ memory_size
   pub alignment : properties.memory_alignment ≡ memory_alignment
   pub not_ready : IsFalse properties.is_ready
+  pub free : (byte : ℕ) → ¬ Taken byte
+
+-- `init` has answered Ok, and all else is as before
+pub record IsReadied (before after : Properties) (TakenBefore TakenAfter : ℕ → Type 0) : Type 0 where
+  pub properties : after ≡ record before { is_ready = true }
+  pub bytes : (byte : ℕ) → TakenAfter byte ↔ TakenBefore byte
+
+-- A chunk was given out at this place: it lies in segment 0, within the bytes that its allocator manages. It is out then, and so
+-- is each that was.
+pub record IsAllocation (before after : Properties) (TakenBefore TakenAfter OutBefore OutAfter IsSkipped : ℕ → Type 0) (layout : SizeAndAlignment) (place : ℕ) : Type 0 where
+  pub properties : after ≡ before
+  pub segment : segment_of place ≡ 0
+  pub within : offset_of place + chunk_size before layout ≤ before.total
+  pub bytes : TakesChunk TakenBefore TakenAfter IsSkipped place (chunk_size before layout)
+  pub out : OutAfter place
+  pub others_out : (other : ℕ) → OutBefore other → OutAfter other
+
+-- The chunk at this place was given back. The others stay out.
+pub record IsDeallocation (before after : Properties) (TakenBefore TakenAfter OutBefore OutAfter : ℕ → Type 0) (place : ℕ) : Type 0 where
+  pub properties : after ≡ before
+  pub bytes : (layout : SizeAndAlignment) → FreesChunk TakenBefore TakenAfter place (chunk_size before layout)
+  pub others_out : (other : ℕ) → offset_of other ≢ offset_of place → OutBefore other → OutAfter other

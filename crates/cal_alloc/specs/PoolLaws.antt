@@ -4,7 +4,7 @@ use Rattle.std.proofs.lemmas.Bool.{false≢true, cases_eq, cases_lt}
 use Rattle.std.proofs.lemmas.List.{get_or-set_same, get_or-set_other, get_or-replicate, get_or_past, length-replicate, length-set}
 use Rattle.std.proofs.lemmas.Nat.{div-add-mod', mod_below, mul-le}
 use Rattle.std.proofs.Math.Nat.{div-eq_of_lt-le, div-mul-le_self}
-use Rattle.cal_alloc.specs.Chunks.{chunk_size, IsInChunk, TakesChunk, FreesChunk, IsPlaced, IsNew}
+use Rattle.cal_alloc.specs.Chunks.{chunk_size, IsInChunk, TakesChunk, FreesChunk, IsNew, IsReadied, IsAllocation, IsDeallocation}
 use Rattle.cal_alloc.specs.Growth.{padded_size}
 use Rattle.cal_alloc.specs.PointerOffset.{pointer_offset, offset_of, segment_of}
 use Rattle.cal_alloc.specs.SizeAndAlignment.{SizeAndAlignment}
@@ -62,13 +62,7 @@ used-within marks bucket used = from (cases_lt bucket (length marks))
 
 -- ---- a new pool
 
-pub pool_new_uninit_is_new : (memory_alignment memory_size : ℕ) (layout : SizeAndAlignment) → IsNew (pool_properties (new_pool memory_alignment memory_size layout)) memory_alignment memory_size
-pool_new_uninit_is_new memory_alignment memory_size layout = record {
-  total = div-mul-le_self memory_size (padded_size layout.size layout.alignment);
-  alignment = refl;
-  not_ready = refl;
-}
-
+-- none of its marks is set
 pub none_used : (count bucket : ℕ) → get_or (replicate count false) bucket false ≡ false
 none_used count bucket = from (cases_lt bucket count)
   where
@@ -76,10 +70,19 @@ none_used count bucket = from (cases_lt bucket count)
     from (inl within) = get_or-replicate count bucket false false within
     from (inr past) = get_or_past (replicate count false) bucket false (omega (arith, length-replicate count false))
 
-pub pool_new_uninit_is_free : (memory_alignment memory_size : ℕ) (layout : SizeAndAlignment) (byte : ℕ) → ¬ IsInUsedBucket (new_pool memory_alignment memory_size layout) byte
-pool_new_uninit_is_free memory_alignment memory_size layout byte used =
+pub new_pool-IsNew : (memory_alignment memory_size : ℕ) (layout : SizeAndAlignment) → IsNew (pool_properties (new_pool memory_alignment memory_size layout)) (IsInUsedBucket (new_pool memory_alignment memory_size layout)) memory_alignment memory_size
+new_pool-IsNew memory_alignment memory_size layout =
     let size = padded_size layout.size layout.alignment in
-    false≢true (sym (none_used (memory_size / size) (byte / size)) ∙ used)
+    record {
+      total = div-mul-le_self memory_size size;
+      alignment = refl;
+      not_ready = refl;
+      free = λ byte used. false≢true (sym (none_used (memory_size / size) (byte / size)) ∙ used);
+    }
+
+-- to make a pool ready leaves its marks
+pub readied_pool-IsReadied : (old : Pool) → IsReadied (pool_properties old) (pool_properties (record old { is_ready = true })) (IsInUsedBucket old) (IsInUsedBucket (record old { is_ready = true }))
+readied_pool-IsReadied old = record { properties = refl; bytes = λ byte. (λ used. used, λ used. used) }
 
 -- ---- a bucket that is given out
 
@@ -91,23 +94,9 @@ given_start old place new gives = let at_start = gives.at_start in omega arith
 pub given_within : (old : Pool) (place : ℕ) (new : Pool) → GivesFreeBucket old place new → bucket_at old place < length old.used
 given_within old place new gives = omega (arith, gives.exists, gives.sound.marked)
 
-pub pool_allocates_properties : (old : Pool) (place : ℕ) (new : Pool) → GivesFreeBucket old place new → pool_properties new ≡ pool_properties old
-pool_allocates_properties old place new gives = ap pool_properties gives.after
-
-pub pool_allocates_served : (old : Pool) (layout : SizeAndAlignment) → pool_refusal old layout ≡ None → layout.size ≤ chunk_size (pool_properties old) layout
-pool_allocates_served old layout served = grind arith
-
-pub pool_allocates_placed : (old : Pool) (place : ℕ) (new : Pool) → GivesFreeBucket old place new → IsPlaced place old.buckets.size (pool_properties old).total
-pool_allocates_placed old place new gives = record {
-  segment = rw gives.at_start (omega arith);
-  within =
-      let start = given_start old place new gives in
-      let next = mul-le (bucket_at old place + 1) old.buckets.size old.buckets.count old.buckets.size (omega (arith, gives.exists)) (omega arith) in
-      omega (arith, start, next);
-}
-
-pub pool_allocates_bytes : (old : Pool) (place : ℕ) (new : Pool) → GivesFreeBucket old place new → TakesChunk (IsInUsedBucket old) (IsInUsedBucket new) (λ _. ⊥) place old.buckets.size
-pool_allocates_bytes old place new gives = record {
+-- its bytes
+pub given_bytes : (old : Pool) (place : ℕ) (new : Pool) → GivesFreeBucket old place new → TakesChunk (IsInUsedBucket old) (IsInUsedBucket new) (λ _. ⊥) place old.buckets.size
+given_bytes old place new gives = record {
   was_free = λ byte inside used. false≢true (sym gives.was_free ∙ rw (here byte inside) at used);
   is_taken = λ byte inside. rw (gives.after, here byte inside) (marked-same old.used (bucket_at old place) true (given_within old place new gives));
   others_taken = λ byte used. rw gives.after (marked-used old.used (bucket_at old place) (byte / old.buckets.size) (given_within old place new gives) used);
@@ -126,25 +115,38 @@ pool_allocates_bytes old place new gives = record {
         let bounds = byte_of_bucket (bucket_at old place) old.buckets.size byte gives.sound.not_empty same in
         outside (omega (arith, start, bounds.0), omega (arith, start, bounds.1))
 
-pub pool_allocates_out : (old : Pool) (place : ℕ) (new : Pool) → GivesFreeBucket old place new → IsUsedBucket new place
-pool_allocates_out old place new gives = record {
+-- it is out then
+pub given_out : (old : Pool) (place : ℕ) (new : Pool) → GivesFreeBucket old place new → IsUsedBucket new place
+given_out old place new gives = record {
   at_start = rw gives.after (given_start old place new gives);
   is_used = rw gives.after (marked-same old.used (bucket_at old place) true (given_within old place new gives));
 }
 
-pub pool_allocates_others_out : (old : Pool) (place : ℕ) (new : Pool) → GivesFreeBucket old place new → (other : ℕ) → IsUsedBucket old other → IsUsedBucket new other
-pool_allocates_others_out old place new gives other out = record {
+-- and so is each that was
+pub given_others_out : (old : Pool) (place : ℕ) (new : Pool) → GivesFreeBucket old place new → (other : ℕ) → IsUsedBucket old other → IsUsedBucket new other
+given_others_out old place new gives other out = record {
   at_start = rw gives.after out.at_start;
   is_used = rw gives.after (marked-used old.used (bucket_at old place) (bucket_at old other) (given_within old place new gives) out.is_used);
 }
 
+pub GivesFreeBucket-IsAllocation : (old : Pool) (layout : SizeAndAlignment) (place : ℕ) (new : Pool) → GivesFreeBucket old place new → IsAllocation (pool_properties old) (pool_properties new) (IsInUsedBucket old) (IsInUsedBucket new) (IsUsedBucket old) (IsUsedBucket new) (λ _. ⊥) layout place
+GivesFreeBucket-IsAllocation old layout place new gives = record {
+  properties = ap pool_properties gives.after;
+  segment = rw gives.at_start (omega arith);
+  within =
+      let start = given_start old place new gives in
+      let next = mul-le (bucket_at old place + 1) old.buckets.size old.buckets.count old.buckets.size (omega (arith, gives.exists)) (omega arith) in
+      omega (arith, start, next);
+  bytes = given_bytes old place new gives;
+  out = given_out old place new gives;
+  others_out = given_others_out old place new gives;
+}
+
 -- ---- a bucket that is given back
 
-pub pool_deallocates_properties : (old : Pool) (place : ℕ) (new : Pool) → FreesBucket old place new → pool_properties new ≡ pool_properties old
-pool_deallocates_properties old place new frees = ap pool_properties frees.after
-
-pub pool_deallocates_bytes : (old : Pool) (place : ℕ) (new : Pool) → FreesBucket old place new → FreesChunk (IsInUsedBucket old) (IsInUsedBucket new) place old.buckets.size
-pool_deallocates_bytes old place new frees = record {
+-- its bytes
+pub freed_bytes : (old : Pool) (place : ℕ) (new : Pool) → FreesBucket old place new → FreesChunk (IsInUsedBucket old) (IsInUsedBucket new) place old.buckets.size
+freed_bytes old place new frees = record {
   others_taken = λ byte outside used.
       rw (frees.after, get_or-set_other old.used (bucket_at old place) (byte / old.buckets.size) false false (elsewhere byte outside)) used;
   no_more = λ byte used. marked-free old.used (bucket_at old place) (byte / old.buckets.size) (rw frees.after at used);
@@ -156,8 +158,9 @@ pool_deallocates_bytes old place new frees = record {
         let bounds = byte_of_bucket (bucket_at old place) old.buckets.size byte frees.sound.not_empty same in
         outside (omega (arith, start, bounds.0), omega (arith, start, bounds.1))
 
-pub pool_deallocates_others_out : (old : Pool) (place : ℕ) (new : Pool) → FreesBucket old place new → (other : ℕ) → offset_of other ≢ offset_of place → IsUsedBucket old other → IsUsedBucket new other
-pool_deallocates_others_out old place new frees other apart out = record {
+-- the others stay out
+pub freed_others_out : (old : Pool) (place : ℕ) (new : Pool) → FreesBucket old place new → (other : ℕ) → offset_of other ≢ offset_of place → IsUsedBucket old other → IsUsedBucket new other
+freed_others_out old place new frees other apart out = record {
   at_start = rw frees.after out.at_start;
   is_used = rw (frees.after, get_or-set_other old.used (bucket_at old place) (bucket_at old other) false false elsewhere) out.is_used;
 }
@@ -165,7 +168,19 @@ pool_deallocates_others_out old place new frees other apart out = record {
     elsewhere : bucket_at old other ≢ bucket_at old place
     elsewhere same = apart (out.at_start ∙ ap (start_of old) same ∙ sym frees.was_used.at_start)
 
+pub FreesBucket-IsDeallocation : (old : Pool) (place : ℕ) (new : Pool) → FreesBucket old place new → IsDeallocation (pool_properties old) (pool_properties new) (IsInUsedBucket old) (IsInUsedBucket new) (IsUsedBucket old) (IsUsedBucket new) place
+FreesBucket-IsDeallocation old place new frees = record {
+  properties = ap pool_properties frees.after;
+  bytes = λ _. freed_bytes old place new frees;
+  others_out = freed_others_out old place new frees;
+}
+
 -- ---- refusals
 
+-- a bucket that is given for a layout is large enough
+pub pool_served : (old : Pool) (layout : SizeAndAlignment) → pool_refusal old layout ≡ None → layout.size ≤ chunk_size (pool_properties old) layout
+pool_served old layout served = grind arith
+
+-- a pool refuses no layout for being empty
 pub pool_refused_empty : (old : Pool) (layout : SizeAndAlignment) → pool_refusal old layout ≡ Some SizeIsZero → layout.size ≡ 0
 pool_refused_empty old layout refused = grind arith

@@ -2,11 +2,9 @@
 
 ghost use Rattle.std.specs.Prelude.{◌≡◌, ◌≢◌, ◌<◌, ◌^◌, ◌*◌, ◌+◌, true, false, nat_le, IsErrOf, OnOk, OnErr, SomeIff, ◌↔◌, refl};
 ghost use Rattle.std.specs.Result.{result_ok};
-ghost use Rattle.std.proofs.Common.{ap};
-ghost use Rattle.cal_alloc.specs.Bump.{new_bump, bump_refusal, GivesNextPlace, IsBelowUsed, IsSkippedBefore, bump_properties};
-ghost use Rattle.cal_alloc.specs.BumpLaws.{bump_new_uninit_is_new, bump_new_uninit_is_free, bump_allocates_properties, bump_allocates_served, bump_allocates_placed, bump_allocates_bytes, bump_allocates_out, bump_allocates_others_out, bump_deallocates_bytes, bump_stays_out, bump_refused_empty};
+ghost use Rattle.cal_alloc.specs.Bump.{new_bump, bump_refusal, GivesNextPlace, IsBelowUsed, IsOutBelowUsed, IsSkippedBefore, bump_properties};
+ghost use Rattle.cal_alloc.specs.BumpLaws.{new_bump-IsNew, readied_bump-IsReadied, GivesNextPlace-IsAllocation, same-IsDeallocation, bump_served, bump_refused_empty};
 ghost use Rattle.cal_alloc.specs.Hints.{bump_hint, bump_resize_hint, raised_payload};
-ghost use Rattle.cal_alloc.specs.PointerOffset.{offset_of};
 
 use crate::allocation_strategy::AllocationStrategy;
 use crate::growth::least_power_of_two;
@@ -99,7 +97,7 @@ impl ShmAllocator for BumpAllocator {
 
     ghost IsTaken = { IsBelowUsed };
 
-    ghost IsOut = { λ bump place. IsBelowUsed bump (offset_of place) };
+    ghost IsOut = { IsOutBelowUsed };
 
     ghost refusal = { bump_refusal };
 
@@ -113,33 +111,17 @@ impl ShmAllocator for BumpAllocator {
 
     ghost Deallocates = { λ old _ new. new ≡ old };
 
-    ghost new_uninit_is_new = { λ alignment size _. bump_new_uninit_is_new alignment size };
+    ghost new_allocator = { λ alignment size _. new_bump-IsNew alignment size };
 
-    ghost new_uninit_is_free = { λ alignment size _. bump_new_uninit_is_free alignment size };
+    ghost readying = { readied_bump-IsReadied };
 
-    ghost readied_properties = { λ _. refl };
+    ghost allocation = { GivesNextPlace-IsAllocation };
 
-    ghost readied_is_free = { λ _ _. (λ taken. taken, λ taken. taken) };
-
-    ghost allocates_properties = { bump_allocates_properties };
-
-    ghost allocates_served = { bump_allocates_served };
-
-    ghost allocates_placed = { bump_allocates_placed };
-
-    ghost allocates_bytes = { bump_allocates_bytes };
-
-    ghost allocates_out = { bump_allocates_out };
-
-    ghost allocates_others_out = { bump_allocates_others_out };
+    ghost deallocation = { same-IsDeallocation };
 
     ghost out_is_taken = { λ _ _ out. out };
 
-    ghost deallocates_properties = { λ _ _ _ same. ap bump_properties same };
-
-    ghost deallocates_bytes = { λ old place new same layout. bump_deallocates_bytes old place new same layout };
-
-    ghost deallocates_others_out = { λ old place new same other _ out. bump_stays_out old new same other out };
+    ghost served = { bump_served };
 
     ghost hint_of_one_byte = { refl };
 

@@ -4,7 +4,7 @@ ghost use Rattle.std.specs.Prelude.{◌≡◌, ◌<◌, ◌^◌, true, not, IsTr
 ghost use Rattle.cal_alloc.specs.Growth.{padded_size, grown_buckets, raised_count};
 ghost use Rattle.cal_alloc.specs.Hints.{pool_setup_hint, pool_resize_hint};
 ghost use Rattle.cal_alloc.specs.Pool.{IsSoundPool, pool_fits, buckets_within, new_pool, is_full, number_of_used, pool_properties, pool_refusal, GivesFreeBucket, IsUsedBucket, IsInUsedBucket, given_back, FreesBucket};
-ghost use Rattle.cal_alloc.specs.PoolLaws.{pool_new_uninit_is_new, pool_new_uninit_is_free, pool_allocates_properties, pool_allocates_served, pool_allocates_placed, pool_allocates_bytes, pool_allocates_out, pool_allocates_others_out, pool_deallocates_properties, pool_deallocates_bytes, pool_deallocates_others_out, pool_refused_empty};
+ghost use Rattle.cal_alloc.specs.PoolLaws.{new_pool-IsNew, readied_pool-IsReadied, GivesFreeBucket-IsAllocation, FreesBucket-IsDeallocation, pool_served, pool_refused_empty};
 
 use crate::allocation_strategy::AllocationStrategy;
 use crate::growth::{raised_count, raised_size};
@@ -188,33 +188,17 @@ impl ShmAllocator for PoolAllocator {
 
     ghost Deallocates = { FreesBucket };
 
-    ghost new_uninit_is_new = { λ alignment size config. pool_new_uninit_is_new alignment size config.bucket_layout };
+    ghost new_allocator = { λ alignment size config. new_pool-IsNew alignment size config.bucket_layout };
 
-    ghost new_uninit_is_free = { λ alignment size config. pool_new_uninit_is_free alignment size config.bucket_layout };
+    ghost readying = { readied_pool-IsReadied };
 
-    ghost readied_properties = { λ _. refl };
+    ghost allocation = { GivesFreeBucket-IsAllocation };
 
-    ghost readied_is_free = { λ _ _. (λ taken. taken, λ taken. taken) };
+    ghost deallocation = { FreesBucket-IsDeallocation };
 
-    ghost allocates_properties = { λ old _ place new. pool_allocates_properties old place new };
+    ghost out_is_taken = { λ _ _ out. out.is_used };
 
-    ghost allocates_served = { pool_allocates_served };
-
-    ghost allocates_placed = { λ old _ place new. pool_allocates_placed old place new };
-
-    ghost allocates_bytes = { λ old _ place new. pool_allocates_bytes old place new };
-
-    ghost allocates_out = { λ old _ place new. pool_allocates_out old place new };
-
-    ghost allocates_others_out = { λ old _ place new. pool_allocates_others_out old place new };
-
-    ghost out_is_taken = { λ old place out. out.is_used };
-
-    ghost deallocates_properties = { pool_deallocates_properties };
-
-    ghost deallocates_bytes = { λ old place new frees _. pool_deallocates_bytes old place new frees };
-
-    ghost deallocates_others_out = { pool_deallocates_others_out };
+    ghost served = { pool_served };
 
     ghost hint_of_one_byte = { refl };
 

@@ -5,7 +5,7 @@
 
 ghost use Rattle.std.specs.Prelude.{◌≡◌, ◌≢◌, ◌<◌, ◌≤◌, ℕ, true, Bool, Option, Some, None, IsTrue, IsFalse, OnOk, OnErr, IfOk, IsErrOf, IsSomeAnd, ◌↔◌};
 ghost use Rattle.std.specs.Result.{result_ok, result_err};
-ghost use Rattle.cal_alloc.specs.Chunks.{Properties, chunk_size, TakesChunk, FreesChunk, IsPlaced, IsNew};
+ghost use Rattle.cal_alloc.specs.Chunks.{Properties, chunk_size, IsNew, IsReadied, IsAllocation, IsDeallocation};
 ghost use Rattle.cal_alloc.specs.PointerOffset.{offset_of};
 ghost use Rattle.cal_alloc.specs.SizeAndAlignment.{SizeAndAlignment};
 ghost use Rattle.cal_alloc.specs.declared.allocation_strategy.AllocationStrategy.{AllocationStrategy};
@@ -185,47 +185,32 @@ pub trait ShmAllocator: Debug + Drop {
         requires { IsOut self.old distance }
         ensures { Deallocates self.old distance self.new };
 
-    // A new allocator has no chunk out, and `init` keeps that.
-    ghost new_uninit_is_new: { (alignment size : ℕ) (config : Self.Configuration) → IsNew (properties (new_uninit alignment size config)) alignment size };
+    ghost new_allocator: { (alignment size : ℕ) (config : Self.Configuration) →
+        IsNew (properties (new_uninit alignment size config)) (IsTaken (new_uninit alignment size config)) alignment size };
 
-    ghost new_uninit_is_free: { (alignment size : ℕ) (config : Self.Configuration) (byte : ℕ) → ¬ IsTaken (new_uninit alignment size config) byte };
+    ghost readying: { (old : Self) →
+        IsReadied (properties old) (properties (readied old)) (IsTaken old) (IsTaken (readied old)) };
 
-    ghost readied_properties: { (old : Self) → properties (readied old) ≡ record (properties old) { is_ready = true } };
+    ghost allocation: { (old : Self) (layout : SizeAndAlignment) (place : ℕ) (new : Self) →
+        Allocates old layout place new →
+        IsAllocation (properties old) (properties new) (IsTaken old) (IsTaken new) (IsOut old) (IsOut new)
+            (IsSkipped old place) layout place };
 
-    ghost readied_is_free: { (old : Self) (byte : ℕ) → IsTaken (readied old) byte ↔ IsTaken old byte };
+    ghost deallocation: { (old : Self) (place : ℕ) (new : Self) → Deallocates old place new →
+        IsDeallocation (properties old) (properties new) (IsTaken old) (IsTaken new) (IsOut old) (IsOut new) place };
 
-    // A chunk that is given out is as large as its layout at least, and its bytes were free. It is out then, and so is each
-    // that was.
-    ghost allocates_properties: { (old : Self) (layout : SizeAndAlignment) (place : ℕ) (new : Self) → Allocates old layout place new → properties new ≡ properties old };
-
-    ghost allocates_served: { (old : Self) (layout : SizeAndAlignment) → refusal old layout ≡ None → layout.size ≤ chunk_size (properties old) layout };
-
-    ghost allocates_placed: { (old : Self) (layout : SizeAndAlignment) (place : ℕ) (new : Self) → Allocates old layout place new →
-        IsPlaced place (chunk_size (properties old) layout) (properties old).total };
-
-    ghost allocates_bytes: { (old : Self) (layout : SizeAndAlignment) (place : ℕ) (new : Self) → Allocates old layout place new →
-        TakesChunk (IsTaken old) (IsTaken new) (IsSkipped old place) place (chunk_size (properties old) layout) };
-
-    ghost allocates_out: { (old : Self) (layout : SizeAndAlignment) (place : ℕ) (new : Self) → Allocates old layout place new → IsOut new place };
-
-    ghost allocates_others_out: { (old : Self) (layout : SizeAndAlignment) (place : ℕ) (new : Self) → Allocates old layout place new →
-        (other : ℕ) → IsOut old other → IsOut new other };
-
-    // The first byte of a chunk that is out is taken. A chunk that is given back frees its own bytes at most, and the others
-    // stay out.
+    // The first byte of a chunk that is out is taken.
     ghost out_is_taken: { (old : Self) (place : ℕ) → IsOut old place → IsTaken old (offset_of place) };
 
-    ghost deallocates_properties: { (old : Self) (place : ℕ) (new : Self) → Deallocates old place new → properties new ≡ properties old };
-
-    ghost deallocates_bytes: { (old : Self) (place : ℕ) (new : Self) → Deallocates old place new →
-        (layout : SizeAndAlignment) → FreesChunk (IsTaken old) (IsTaken new) place (chunk_size (properties old) layout) };
-
-    ghost deallocates_others_out: { (old : Self) (place : ℕ) (new : Self) → Deallocates old place new →
-        (other : ℕ) → offset_of other ≢ offset_of place → IsOut old other → IsOut new other };
+    // A chunk that is given out for a layout is large enough.
+    ghost served: { (old : Self) (layout : SizeAndAlignment) →
+        refusal old layout ≡ None → layout.size ≤ chunk_size (properties old) layout };
 
     // The memory for one chunk of one byte is one byte.
-    ghost hint_of_one_byte: { IsSomeAnd (initial_setup_hint (record { size = 1; alignment = 1 }) 1) (λ hint. hint.payload_size ≡ 1) };
+    ghost hint_of_one_byte: {
+        IsSomeAnd (initial_setup_hint (record { size = 1; alignment = 1 }) 1) (λ hint. hint.payload_size ≡ 1) };
 
     // Only an empty chunk is refused for its size.
-    ghost refused_empty: { (old : Self) (layout : SizeAndAlignment) → refusal old layout ≡ Some ShmAllocationError.SizeIsZero → layout.size ≡ 0 };
+    ghost refused_empty: { (old : Self) (layout : SizeAndAlignment) →
+        refusal old layout ≡ Some ShmAllocationError.SizeIsZero → layout.size ≡ 0 };
 }

@@ -1,7 +1,7 @@
 use Rattle.std.proofs.Common.{◌≡◌, ◌≤◌, refl, arith, rules}
 use Rattle.cal_alloc.specs.Hints.{raised_payload}
 use Rattle.cal_alloc.proofs.BumpServing.{bump_hint_serves, raised_payload-ge}
-use Rattle.cal_alloc.proofs.Serving.{IfOk-by}
+use Rattle.cal_alloc.proofs.Results.{IfOk-by}
 use Rattle.cal_alloc.proofs.bump_allocator.BumpAllocatorShmAllocator.resize_hint.Goals as goal
 
 pub returns-then-size-self-clause-serves : goal.returns-then-size-self-clause-serves

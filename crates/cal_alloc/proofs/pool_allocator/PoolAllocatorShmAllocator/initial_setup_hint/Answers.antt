@@ -1,7 +1,7 @@
 use Rattle.std.proofs.Common.{◌≡◌, ◌*◌, ◌<◌, ◌≤◌, ◌^◌, arith, rules}
 use Rattle.std.specs.Int.{next_multiple_of}
 use Rattle.cal_alloc.proofs.Padding.{positive_power, next_multiple_of-twice}
-use Rattle.cal_alloc.proofs.Serving.{setup_hint_fits}
+use Rattle.cal_alloc.proofs.PoolServing.{setup_hint_fits}
 use Rattle.cal_alloc.proofs.pool_allocator.PoolAllocatorShmAllocator.initial_setup_hint.Goals as goal
 
 pub returns-clause-fits : goal.returns-clause-fits

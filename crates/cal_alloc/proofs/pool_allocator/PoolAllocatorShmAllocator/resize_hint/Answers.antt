@@ -1,7 +1,8 @@
 use Rattle.std.proofs.Common.{◌≡◌, rules}
 use Rattle.std.specs.Result.{result_ok}
 use Rattle.cal_alloc.specs.Hints.{pool_resize_hint}
-use Rattle.cal_alloc.proofs.Serving.{resize_hint_serves, IfOk-by}
+use Rattle.cal_alloc.proofs.PoolServing.{resize_hint_serves}
+use Rattle.cal_alloc.proofs.Results.{IfOk-by}
 use Rattle.cal_alloc.proofs.pool_allocator.PoolAllocatorShmAllocator.resize_hint.Goals as goal
 
 pub returns-clause-serves : goal.returns-clause-serves

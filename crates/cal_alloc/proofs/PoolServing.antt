@@ -1,8 +1,7 @@
 -- Memory that is set up by a pool's hint: it fits, and serves the layout that was asked for.
-use Rattle.std.proofs.Common.{◌≡◌, ◌≢◌, ℕ, zero, suc, ◌+◌, ◌*◌, ◌/◌, ◌^◌, ◌<◌, ◌≤◌, max, Bool, true, false, ◌&&◌, IsTrue, nat_le, nat_lt, if◌then◌else◌, List, Option, Some, None, Result, Ok, Err, IfOk, length, replicate, refl, sym, ◌∙◌, ap, subst, arith, ◌⊎◌, inl, inr}
+use Rattle.std.proofs.Common.{◌≡◌, ◌≢◌, ℕ, zero, suc, ◌+◌, ◌*◌, ◌/◌, ◌^◌, ◌<◌, ◌≤◌, max, Bool, true, false, ◌&&◌, IsTrue, nat_le, nat_lt, if◌then◌else◌, List, Option, Some, None,  length, replicate, refl, sym, ◌∙◌, ap, subst, arith, ◌⊎◌, inl, inr}
 use Rattle.std.specs.Int.{next_multiple_of, is_power_of_two}
 use Rattle.std.specs.List.{list_all}
-use Rattle.std.specs.Result.{result_ok}
 use Rattle.std.proofs.lemmas.Bool.{false≢true, cases_lt}
 use Rattle.std.proofs.Math.Nat.{mul-div_cancel_left, zero-div, zero-mul}
 use Rattle.cal_alloc.specs.Growth.{Buckets, padded_size, fits_bucket, raised_count, raised_size, raised_buckets, grown_buckets, least_power_of_two}
@@ -133,8 +132,3 @@ resize_hint_serves pool layout strategy hint sound growing given memory_alignmen
   where
     some_bucket : (pool : Pool) → IsSoundPool pool → is_full pool ≡ false → 0 < pool.buckets.count
     some_bucket pool sound free = omega (arith, counted-lt-length pool.used free, sound.marked)
-
--- a fact of the value that a result has, if it has one
-pub IfOk-by : {T E : Type 0} (result : Result T E) (value : Option T) (P : T → Type 0) → result_ok result ≡ value → ((x : T) → value ≡ Some x → P x) → IfOk result P
-IfOk-by (Ok x) value P e holds = holds x (sym e)
-IfOk-by (Err x) value P e holds = tt
