@@ -41,6 +41,7 @@ hint-payload size hint given = from (nat_le size (2 ^ 56)) given
   where
     proposed : SharedMemorySetupHint Config
     proposed = record { payload_size = size; config = record {} }
+
     from : (in_range : Bool) → (if in_range then Some proposed else None) ≡ Some hint → hint.payload_size ≡ size
     from true e = let same : proposed ≡ hint = cc in sym (ap (λ (h : SharedMemorySetupHint Config). h.payload_size) same)
     from false e = absurd cc

@@ -1,5 +1,5 @@
 -- Memory that is set up by a pool's hint: it fits, and serves the layout that was asked for.
-use Rattle.std.proofs.Common.{◌≡◌, ◌≢◌, ℕ, zero, suc, ◌+◌, ◌*◌, ◌/◌, ◌^◌, ◌<◌, ◌≤◌, max, Bool, true, false, ◌&&◌, IsTrue, nat_le, nat_lt, if◌then◌else◌, List, Option, Some, None,  length, replicate, refl, sym, ◌∙◌, ap, subst, arith, ◌⊎◌, inl, inr}
+use Rattle.std.proofs.Common.{◌≡◌, ◌≢◌, ℕ, zero, suc, ◌+◌, ◌*◌, ◌/◌, ◌^◌, ◌<◌, ◌≤◌, max, Bool, true, false, ◌&&◌, IsTrue, nat_le, nat_lt, if◌then◌else◌, List, Option, Some, None, length, replicate, refl, sym, ◌∙◌, ap, subst, arith, ◌⊎◌, inl, inr}
 use Rattle.std.specs.Int.{next_multiple_of, is_power_of_two}
 use Rattle.std.specs.List.{list_all}
 use Rattle.std.proofs.lemmas.Bool.{false≢true, cases_lt}
@@ -30,6 +30,7 @@ setup_hint_fits size alignment count payload power low small padded is_payload w
   where
     positive : 0 < alignment
     positive = positive_power alignment power
+
     from : (0 < size) ⊎ (size ≤ 0) → IsTrue (pool_fits payload (record { size = size; alignment = alignment }))
     from (inl some) =
         let same = padded_size-padded size alignment some padded in
@@ -64,9 +65,11 @@ raised-Serves strategy old all_used size alignment positive power padded some la
   where
     not_zero : 0 < max old.alignment alignment
     not_zero = omega (arith, positive_power old.alignment power)
+
     counted : (used : Bool) → all_used ≡ used → 0 < (if used then raised_count strategy old.count else old.count)
     counted true e = more old.count
     counted false e = some e
+
     from : (fits : Bool) → fits_bucket old size alignment ≡ fits → Serves (row_if strategy old all_used size alignment fits) size alignment
     from true e =
         let small : size ≤ old.size = grind arith in
@@ -116,6 +119,7 @@ setup_hint-is layout count hint given = from (is_in_range (next_multiple_of layo
   where
     proposed : SharedMemorySetupHint Config
     proposed = record { payload_size = next_multiple_of layout.size layout.alignment * count; config = record { bucket_layout = record { size = next_multiple_of layout.size layout.alignment; alignment = layout.alignment } } }
+
     from : (in_range : Bool) → (if in_range then Some proposed else None) ≡ Some hint → hint ≡ proposed
     from true e = cc
     from false e = absurd cc
@@ -128,7 +132,7 @@ resize_hint_serves pool layout strategy hint sound growing given memory_alignmen
     let same = padded_size-padded grown.size grown.alignment serves.not_empty serves.padded in
     let whole : grown.size * grown.count / grown.size ≡ grown.count = mul-div_cancel_left grown.count serves.not_empty in
     rw (setup_hint-is (record { size = grown.size; alignment = grown.alignment }) grown.count hint given, serves.padded, same, whole)
-      (Serves-served grown memory_alignment layout serves)
+    (Serves-served grown memory_alignment layout serves)
   where
     some_bucket : (pool : Pool) → IsSoundPool pool → is_full pool ≡ false → 0 < pool.buckets.count
     some_bucket pool sound free = omega (arith, counted-lt-length pool.used free, sound.marked)

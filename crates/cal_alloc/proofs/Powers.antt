@@ -51,6 +51,7 @@ doubled_to-power (suc times) n j = turn-power (nat_le n (2 ^ j)) times n j (rw t
   where
     two_times : 2 ^ suc j ≡ 2 * 2 ^ j
     two_times = rw pow-suc (omega arith)
+
     turn-power : (reached : Bool) (times n j : ℕ) → ((k : ℕ) × (doubled_to times n (2 * 2 ^ j) ≡ 2 ^ k)) → (k : ℕ) × (doubled_if reached times n (2 ^ j) ≡ 2 ^ k)
     turn-power true times n j further = (j, refl)
     turn-power false times n j further = further
@@ -80,6 +81,7 @@ least_power_of_two-far n far = from (cases_lt power.0 64)
   where
     power : (k : ℕ) × (least_power_of_two n ≡ 2 ^ k)
     power = doubled_to-power n n 0
+
     from : (power.0 < 64) ⊎ (64 ≤ power.0) → 2 ^ 64 ≤ least_power_of_two n
     from (inl small) =
         let low : 2 ^ power.0 ≤ 2 ^ 63 = (let few : power.0 ≤ 63 = omega (arith, small) in pow-le-pow_right {n = 2} (omega arith) few) in

@@ -109,6 +109,7 @@ given_bytes old place new gives = record {
     here byte inside =
         let start = given_start old place new gives in
         bucket_of_byte (bucket_at old place) old.buckets.size byte (omega (arith, start, inside.0)) (omega (arith, start, inside.1))
+
     elsewhere : (byte : ℕ) → ¬ IsInChunk place old.buckets.size byte → byte / old.buckets.size ≢ bucket_at old place
     elsewhere byte outside same =
         let start = given_start old place new gives in

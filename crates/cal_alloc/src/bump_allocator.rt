@@ -11,7 +11,8 @@ use crate::growth::least_power_of_two;
 use crate::layout::{Layout, checked_next_multiple_of};
 use crate::pointer_offset::PointerOffset;
 use crate::shm_allocator::{
-    MAX_MEMORY_SIZE, SharedMemorySetupHint, ShmAllocationError, ShmAllocator, ShmAllocatorConfig, ShmAllocatorInitError, SizeOutOfRange,
+    MAX_MEMORY_SIZE, SharedMemorySetupHint, ShmAllocationError, ShmAllocator, ShmAllocatorConfig,
+    ShmAllocatorInitError, SizeOutOfRange,
 };
 use std::alloc::Global;
 use std::marker::Model;
@@ -34,7 +35,8 @@ fn hint(payload_size: usize) -> Result<SharedMemorySetupHint<Config>, SizeOutOfR
 
 /// The payload size that a strategy takes next; `None` from 2^64 on.
 fn raised_payload(strategy: AllocationStrategy, payload_size: usize, size: usize) -> Option<usize>
-    ensures { SomeIff result (raised_payload strategy payload_size size < 2 ^ 64) (raised_payload strategy payload_size size) }
+    ensures { let raised = raised_payload strategy payload_size size in
+        SomeIff result (raised < 2 ^ 64) raised }
 {
     match strategy {
         AllocationStrategy::BestFit => payload_size.checked_add(size),
@@ -64,7 +66,8 @@ impl Model for BumpAllocator {
 
     ghost Value = { Bump };
 
-    ghost view = { λ a. record { total = a.total; used = a.used; memory_alignment = a.memory_alignment; is_ready = a.is_ready } };
+    ghost view = { λ a.
+        record { total = a.total; used = a.used; memory_alignment = a.memory_alignment; is_ready = a.is_ready } };
 
     ghost invariant = { λ a. (a.used ≤ a.total) × (a.total ≤ 2 ^ 56) };
 }
@@ -142,7 +145,12 @@ impl ShmAllocator for BumpAllocator {
         max_chunk_layout: Layout,
         max_number_of_chunks: usize,
     ) -> Result<SharedMemorySetupHint<Config>, SizeOutOfRange> {
-        hint(max_chunk_layout.size().checked_mul(max_number_of_chunks).ok_or(SizeOutOfRange)?)
+        hint(
+            max_chunk_layout
+                .size()
+                .checked_mul(max_number_of_chunks)
+                .ok_or(SizeOutOfRange)?,
+        )
     }
 
     fn fits(memory_size: usize, _config: &Config) -> bool {

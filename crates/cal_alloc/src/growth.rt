@@ -38,7 +38,8 @@ pub(crate) fn raised_size(
     alignment: usize,
 ) -> Option<usize>
     requires { 0 < alignment }
-    ensures { SomeIff result (raised_size strategy size alignment < 2 ^ 64) (raised_size strategy size alignment) }
+    ensures { let raised = raised_size strategy size alignment in
+        SomeIff result (raised < 2 ^ 64) raised }
 {
     match strategy {
         AllocationStrategy::BestFit => checked_next_multiple_of(size, alignment),

@@ -2,20 +2,22 @@
 #![tactic(auto)]
 
 mod allocation_strategy;
+pub mod bump_allocator;
 mod growth;
 mod layout;
 mod pointer_offset;
-mod shm_allocator;
-
-pub mod bump_allocator;
 pub mod pool_allocator;
+mod shm_allocator;
 
 pub use allocation_strategy::AllocationStrategy;
 pub use bump_allocator::BumpAllocator;
 pub use layout::Layout;
 pub use pointer_offset::{PointerOffset, SegmentId, SegmentIdUnderlyingType};
 pub use pool_allocator::PoolAllocator;
-pub use shm_allocator::{SharedMemorySetupHint, ShmAllocationError, ShmAllocator, ShmAllocatorConfig, ShmAllocatorInitError, SizeOutOfRange};
+pub use shm_allocator::{
+    SharedMemorySetupHint, ShmAllocationError, ShmAllocator, ShmAllocatorConfig,
+    ShmAllocatorInitError, SizeOutOfRange,
+};
 
 #[cfg(test)]
 mod tests;

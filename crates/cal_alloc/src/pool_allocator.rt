@@ -11,16 +11,19 @@ use crate::growth::{raised_count, raised_size};
 use crate::layout::{Layout, checked_next_multiple_of};
 use crate::pointer_offset::PointerOffset;
 use crate::shm_allocator::{
-    MAX_MEMORY_SIZE, SharedMemorySetupHint, ShmAllocationError, ShmAllocator, ShmAllocatorConfig, ShmAllocatorInitError, SizeOutOfRange,
+    MAX_MEMORY_SIZE, SharedMemorySetupHint, ShmAllocationError, ShmAllocator, ShmAllocatorConfig,
+    ShmAllocatorInitError, SizeOutOfRange,
 };
 use std::alloc::Global;
 use std::marker::Model;
 
+/// A pool has fewer than 2^32 buckets.
 const MAX_NUMBER_OF_BUCKETS: usize = (1 << 32) - 1;
 
 /// The size of a bucket for that layout: at least one byte, rounded up to the alignment; `None` from 2^64 on.
 fn bucket_size(layout: Layout) -> Option<usize>
-    ensures { SomeIff result (padded_size layout.size layout.alignment < 2 ^ 64) (padded_size layout.size layout.alignment) }
+    ensures { let size = padded_size layout.size layout.alignment in
+        SomeIff result (size < 2 ^ 64) size }
 {
     checked_next_multiple_of(layout.size().max(1), layout.align())
 }
@@ -39,7 +42,8 @@ pub struct Config {
 }
 
 impl Default for Config {
-    ghost is_default = { λ config. config ≡ record { bucket_layout = record { size = 1024; alignment = 8 } } };
+    ghost is_default = { λ config.
+        config ≡ record { bucket_layout = record { size = 1024; alignment = 8 } } };
 
     fn default() -> Config {
         Config {
@@ -93,7 +97,7 @@ impl PoolAllocator {
 
     /// The number of buckets that are handed out and not given back.
     pub fn number_of_used_buckets(&self) -> u32
-        ensures value { result ≡ number_of_used self.now }
+        ensures { result ≡ number_of_used self.now }
     {
         self.number_of_used
     }
@@ -132,7 +136,8 @@ impl PoolAllocator {
 
     /// The number of buckets that the strategy takes next.
     fn raised_count(&self, strategy: AllocationStrategy) -> usize
-        ensures { result ≡ (if is_full self.now then raised_count strategy self.now.buckets.count else self.now.buckets.count) }
+        ensures { let count = self.now.buckets.count in
+            result ≡ (if is_full self.now then raised_count strategy count else count) }
     {
         if self.number_of_used == self.number_of_buckets {
             raised_count(strategy, self.number_of_buckets)
@@ -218,8 +223,11 @@ impl ShmAllocator for PoolAllocator {
         max_number_of_chunks: usize,
     ) -> Result<SharedMemorySetupHint<Config>, SizeOutOfRange> {
         let alignment = max_chunk_layout.align();
-        let size = checked_next_multiple_of(max_chunk_layout.size(), alignment).ok_or(SizeOutOfRange)?;
-        let payload_size = size.checked_mul(max_number_of_chunks).ok_or(SizeOutOfRange)?;
+        let padded = checked_next_multiple_of(max_chunk_layout.size(), alignment);
+        let size = padded.ok_or(SizeOutOfRange)?;
+        let payload_size = size
+            .checked_mul(max_number_of_chunks)
+            .ok_or(SizeOutOfRange)?;
         if MAX_MEMORY_SIZE < payload_size || MAX_NUMBER_OF_BUCKETS < max_number_of_chunks {
             return Err(SizeOutOfRange);
         }
@@ -231,12 +239,10 @@ impl ShmAllocator for PoolAllocator {
     }
 
     fn fits(memory_size: usize, config: &Config) -> bool {
-        let layout = config.bucket_layout;
-        match bucket_size(layout) {
-            Some(size) => memory_size <= MAX_MEMORY_SIZE
-                && memory_size / size <= MAX_NUMBER_OF_BUCKETS,
-            None => false,
-        }
+        let Some(size) = bucket_size(config.bucket_layout) else {
+            return false;
+        };
+        memory_size <= MAX_MEMORY_SIZE && memory_size / size <= MAX_NUMBER_OF_BUCKETS
     }
 
     fn management_size(memory_size: usize, config: &Config) -> usize {
@@ -263,10 +269,8 @@ impl ShmAllocator for PoolAllocator {
         if self.memory_alignment < self.alignment {
             return Err(ShmAllocatorInitError::MaxSupportedMemoryAlignmentInsufficient);
         }
-        let used = vec![in alloc; false; self.number_of_buckets as usize].map_err(
-            |_| ShmAllocatorInitError::AllocationFailed,
-        )?;
-        self.used = Some(used);
+        let used = vec![in alloc; false; self.number_of_buckets as usize];
+        self.used = Some(used.map_err(|_| ShmAllocatorInitError::AllocationFailed)?);
         Ok(())
     }
 

@@ -94,7 +94,8 @@ pub trait ShmAllocator: Debug + Drop {
 
     ghost refusal: { Self → SizeAndAlignment → Option ShmAllocationError };
 
-    ghost resize_hint: { Self → SizeAndAlignment → AllocationStrategy → Option (SharedMemorySetupHint Self.Configuration) };
+    ghost resize_hint: { Self → SizeAndAlignment → AllocationStrategy →
+        Option (SharedMemorySetupHint Self.Configuration) };
 
     // What calls do to it: after `init` has answered Ok; after a chunk of a layout was given out at a place, and the bytes
     // that are skipped before that place; after the chunk at a place was given back.
@@ -118,9 +119,11 @@ pub trait ShmAllocator: Debug + Drop {
 
         // A new allocator that is made by the hint, for memory of any alignment, serves the layout; but a static strategy
         // proposes what is there, an empty chunk may be refused everywhere, and not each allocator can raise its alignment.
-        ensures serves { strategy ≢ AllocationStrategy.Static → refusal self.now layout ≢ Some ShmAllocationError.SizeIsZero →
+        ensures serves { strategy ≢ AllocationStrategy.Static →
+            refusal self.now layout ≢ Some ShmAllocationError.SizeIsZero →
             (IsFalse growth_raises_alignment → layout.alignment ≤ (properties self.now).max_alignment) →
-            IfOk result (λ hint. (alignment : ℕ) → refusal (readied (new_uninit alignment hint.payload_size hint.config)) layout ≡ None) };
+            IfOk result (λ hint. (alignment : ℕ) →
+            refusal (readied (new_uninit alignment hint.payload_size hint.config)) layout ≡ None) };
 
     /// The memory to set up for that many chunks of that layout. `SizeOutOfRange` where no memory can be so large, or no
     /// allocator can have so many chunks.
@@ -186,7 +189,8 @@ pub trait ShmAllocator: Debug + Drop {
         ensures { Deallocates self.old distance self.new };
 
     ghost new_allocator: { (alignment size : ℕ) (config : Self.Configuration) →
-        IsNew (properties (new_uninit alignment size config)) (IsTaken (new_uninit alignment size config)) alignment size };
+        IsNew (properties (new_uninit alignment size config)) (IsTaken (new_uninit alignment size config))
+        alignment size };
 
     ghost readying: { (old : Self) →
         IsReadied (properties old) (properties (readied old)) (IsTaken old) (IsTaken (readied old)) };
@@ -194,10 +198,11 @@ pub trait ShmAllocator: Debug + Drop {
     ghost allocation: { (old : Self) (layout : SizeAndAlignment) (place : ℕ) (new : Self) →
         Allocates old layout place new →
         IsAllocation (properties old) (properties new) (IsTaken old) (IsTaken new) (IsOut old) (IsOut new)
-            (IsSkipped old place) layout place };
+        (IsSkipped old place) layout place };
 
     ghost deallocation: { (old : Self) (place : ℕ) (new : Self) → Deallocates old place new →
-        IsDeallocation (properties old) (properties new) (IsTaken old) (IsTaken new) (IsOut old) (IsOut new) place };
+        IsDeallocation (properties old) (properties new) (IsTaken old) (IsTaken new) (IsOut old) (IsOut new)
+        place };
 
     // The first byte of a chunk that is out is taken.
     ghost out_is_taken: { (old : Self) (place : ℕ) → IsOut old place → IsTaken old (offset_of place) };
@@ -207,8 +212,7 @@ pub trait ShmAllocator: Debug + Drop {
         refusal old layout ≡ None → layout.size ≤ chunk_size (properties old) layout };
 
     // The memory for one chunk of one byte is one byte.
-    ghost hint_of_one_byte: {
-        IsSomeAnd (initial_setup_hint (record { size = 1; alignment = 1 }) 1) (λ hint. hint.payload_size ≡ 1) };
+    ghost hint_of_one_byte: { IsSomeAnd (initial_setup_hint (record { size = 1; alignment = 1 }) 1) (λ hint. hint.payload_size ≡ 1) };
 
     // Only an empty chunk is refused for its size.
     ghost refused_empty: { (old : Self) (layout : SizeAndAlignment) →

@@ -1,16 +1,19 @@
 ghost use Rattle.std.specs.Prelude.{◌≡◌, ◌≢◌, ◌≤◌, ℕ, Some, IsTrue, IsFalse, IfSome, IfOk};
 ghost use Rattle.cal_alloc.specs.Chunks.{IsInChunk, chunk_size};
 
-use crate::{bump_allocator, pool_allocator};
 use crate::{
-    AllocationStrategy, BumpAllocator, Layout, PointerOffset, PoolAllocator, SegmentId, ShmAllocationError, ShmAllocator,
-    ShmAllocatorInitError, SizeOutOfRange,
+    AllocationStrategy, BumpAllocator, Layout, PointerOffset, PoolAllocator, SegmentId,
+    ShmAllocationError, ShmAllocator, ShmAllocatorInitError, SizeOutOfRange, bump_allocator,
+    pool_allocator,
 };
 use std::alloc::Global;
 use std::test::Fail;
 
 /// The places of two chunks that are handed out one after the other. The clause is proved from the laws of the trait alone.
-fn two_chunks<A: ShmAllocator>(allocator: &mut A, layout: Layout) -> Option<(PointerOffset, PointerOffset)>
+fn two_chunks<A: ShmAllocator>(
+    allocator: &mut A,
+    layout: Layout,
+) -> Option<(PointerOffset, PointerOffset)>
     requires { IsTrue (A.properties allocator.old).is_ready }
     ensures apart { IfSome result (λ places. (byte : ℕ) →
         IsInChunk places.0 (chunk_size (A.properties allocator.old) layout) byte →
@@ -77,12 +80,27 @@ fn offset_and_segment_are_one_number(rt: HostRuntime) {
 fn places_and_causes_are_printed(rt: HostRuntime) -> Result<(), Fail> {
     let place = PointerOffset::from_offset_and_segment_id(100, SegmentId::new(5));
     let text = format!(in rt.alloc(); "{place:?}")?;
-    assert_eq!(rt; text.as_str(), "PointerOffset { offset: 100, segment_id: SegmentId(5) }");
+    assert_eq!(rt;
+        text.as_str(),
+        "PointerOffset { offset: 100, segment_id: SegmentId(5) }"
+    );
     for (cause, name) in [
-        (ShmAllocationError::ExceedsMaxSupportedAlignment, "ShmAllocationError::ExceedsMaxSupportedAlignment"),
-        (ShmAllocationError::SizeTooLarge, "ShmAllocationError::SizeTooLarge"),
-        (ShmAllocationError::OutOfMemory, "ShmAllocationError::OutOfMemory"),
-        (ShmAllocationError::SizeIsZero, "ShmAllocationError::SizeIsZero"),
+        (
+            ShmAllocationError::ExceedsMaxSupportedAlignment,
+            "ShmAllocationError::ExceedsMaxSupportedAlignment",
+        ),
+        (
+            ShmAllocationError::SizeTooLarge,
+            "ShmAllocationError::SizeTooLarge",
+        ),
+        (
+            ShmAllocationError::OutOfMemory,
+            "ShmAllocationError::OutOfMemory",
+        ),
+        (
+            ShmAllocationError::SizeIsZero,
+            "ShmAllocationError::SizeIsZero",
+        ),
     ] {
         let text = format!(in rt.alloc(); "{cause}")?;
         assert_eq!(rt; text.as_str(), name);
@@ -92,7 +110,10 @@ fn places_and_causes_are_printed(rt: HostRuntime) -> Result<(), Fail> {
             ShmAllocatorInitError::MaxSupportedMemoryAlignmentInsufficient,
             "ShmAllocatorInitError::MaxSupportedMemoryAlignmentInsufficient",
         ),
-        (ShmAllocatorInitError::AllocationFailed, "ShmAllocatorInitError::AllocationFailed"),
+        (
+            ShmAllocatorInitError::AllocationFailed,
+            "ShmAllocatorInitError::AllocationFailed",
+        ),
     ] {
         let text = format!(in rt.alloc(); "{cause}")?;
         assert_eq!(rt; text.as_str(), name);
@@ -107,9 +128,18 @@ fn a_bump_allocator_goes_from_the_front_on(rt: HostRuntime) -> Result<(), Fail> 
     let mut bump = bump(rt.alloc())?;
     assert_eq!(rt; bump.allocate(layout(3, 1)?)?, PointerOffset::new(0));
     assert_eq!(rt; bump.allocate(layout(8, 8)?)?, PointerOffset::new(8));
-    assert_eq!(rt; bump.allocate(layout(49, 1)?), Err(ShmAllocationError::OutOfMemory));
-    assert_eq!(rt; bump.allocate(layout(0, 1)?), Err(ShmAllocationError::SizeIsZero));
-    assert_eq!(rt; bump.allocate(layout(1, 16)?), Err(ShmAllocationError::ExceedsMaxSupportedAlignment));
+    assert_eq!(rt;
+        bump.allocate(layout(49, 1)?),
+        Err(ShmAllocationError::OutOfMemory)
+    );
+    assert_eq!(rt;
+        bump.allocate(layout(0, 1)?),
+        Err(ShmAllocationError::SizeIsZero)
+    );
+    assert_eq!(rt;
+        bump.allocate(layout(1, 16)?),
+        Err(ShmAllocationError::ExceedsMaxSupportedAlignment)
+    );
     for (size, strategy, payload_size) in [
         (48, AllocationStrategy::BestFit, 112),
         (48, AllocationStrategy::PowerOfTwo, 128),
@@ -119,7 +149,11 @@ fn a_bump_allocator_goes_from_the_front_on(rt: HostRuntime) -> Result<(), Fail> 
         (47, AllocationStrategy::Static, 64),
     ] {
         let hint = bump.resize_hint(layout(size, 1)?, strategy)?;
-        assert_eq!(rt; hint.payload_size, payload_size, "{size} under {strategy:?}");
+        assert_eq!(rt;
+            hint.payload_size,
+            payload_size,
+            "{size} under {strategy:?}"
+        );
     }
     Ok(())
 }
@@ -130,7 +164,10 @@ fn a_full_pool_proposes_a_larger_one(rt: HostRuntime) -> Result<(), Fail> {
     'buckets: for _ in 0..4 {
         assert!(rt; pool.allocate(layout(1024, 8)?).is_ok());
     }
-    assert_eq!(rt; pool.allocate(layout(1024, 8)?), Err(ShmAllocationError::OutOfMemory));
+    assert_eq!(rt;
+        pool.allocate(layout(1024, 8)?),
+        Err(ShmAllocationError::OutOfMemory)
+    );
     let asked = layout(1500, 16)?;
     for (strategy, size, alignment, payload_size) in [
         (AllocationStrategy::BestFit, 1504, 16, 7520),
@@ -139,7 +176,11 @@ fn a_full_pool_proposes_a_larger_one(rt: HostRuntime) -> Result<(), Fail> {
     ] {
         let hint = pool.resize_hint(asked, strategy)?;
         assert_eq!(rt; hint.payload_size, payload_size, "{strategy:?}");
-        assert_eq!(rt; hint.config.bucket_layout, layout(size, alignment)?, "{strategy:?}");
+        assert_eq!(rt;
+            hint.config.bucket_layout,
+            layout(size, alignment)?,
+            "{strategy:?}"
+        );
     }
     Ok(())
 }
@@ -147,7 +188,10 @@ fn a_full_pool_proposes_a_larger_one(rt: HostRuntime) -> Result<(), Fail> {
 #[test]
 fn init_needs_the_alignment_in_memory(rt: HostRuntime) -> Result<(), Fail> {
     for (alignment, answer) in [
-        (8192, Err(ShmAllocatorInitError::MaxSupportedMemoryAlignmentInsufficient)),
+        (
+            8192,
+            Err(ShmAllocatorInitError::MaxSupportedMemoryAlignmentInsufficient),
+        ),
         (8, Ok(())),
     ] {
         let config = pool_allocator::Config {
@@ -172,7 +216,11 @@ fn hints_end_at_their_limits(rt: HostRuntime) -> Result<(), Fail> {
         (usize::MAX, 2, 0, false),
     ] {
         let hint = PoolAllocator::initial_setup_hint(layout(size, alignment)?, count);
-        assert_eq!(rt; hint.is_ok(), is_in_range, "{count} of {size} at {alignment}");
+        assert_eq!(rt;
+            hint.is_ok(),
+            is_in_range,
+            "{count} of {size} at {alignment}"
+        );
     }
     for (size, count, is_in_range) in [
         (LARGEST, 1, true),
@@ -194,7 +242,11 @@ fn hints_end_at_their_limits(rt: HostRuntime) -> Result<(), Fail> {
         let config = pool_allocator::Config {
             bucket_layout: layout(size, alignment)?,
         };
-        assert_eq!(rt; PoolAllocator::fits(memory_size, &config), fits, "{memory_size} by {size}");
+        assert_eq!(rt;
+            PoolAllocator::fits(memory_size, &config),
+            fits,
+            "{memory_size} by {size}"
+        );
     }
     Ok(())
 }
