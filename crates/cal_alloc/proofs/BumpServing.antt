@@ -1,9 +1,9 @@
 -- Memory that is set up by a bump allocator's hint serves the layout that was asked for.
-use Rattle.std.proofs.Common.{◌≡◌, ◌≢◌, ℕ, zero, suc, ◌+◌, ◌-◌, ◌%◌, ◌^◌, ◌<◌, ◌≤◌, Bool, true, false, nat_le, if◌then◌else◌, Option, Some, None, refl, sym, ◌∙◌, ap, arith, ◌⊎◌, inl, inr}
+use Rattle.std.proofs.Common.{◌≡◌, ◌≢◌, ℕ, ◌+◌, ◌^◌, ◌<◌, ◌≤◌, Bool, true, false, nat_le, if◌then◌else◌, Some, None, refl, sym, ap, arith, ◌⊎◌, inl, inr}
 use Rattle.std.specs.Int.{next_multiple_of}
 use Rattle.std.proofs.lemmas.Bool.{cases_lt}
 use Rattle.std.proofs.Math.Nat.{mod_self, zero-mod, sub-zero}
-use Rattle.cal_alloc.specs.Bump.{Bump, bump_refusal, next_place}
+use Rattle.cal_alloc.specs.Bump.{Bump, bump_refusal}
 use Rattle.cal_alloc.specs.Hints.{bump_hint, raised_payload}
 use Rattle.cal_alloc.specs.SizeAndAlignment.{SizeAndAlignment}
 use Rattle.cal_alloc.specs.declared.allocation_strategy.AllocationStrategy.{AllocationStrategy}

@@ -1,7 +1,7 @@
 -- A pool's buckets by their numbers and by their places.
-use Rattle.std.proofs.Common.{◌≡◌, ℕ, ◌+◌, ◌*◌, ◌/◌, ◌<◌, ◌≤◌, true, false, refl, sym, ◌∙◌, ap, arith}
-use Rattle.std.proofs.lemmas.Nat.{div-mul-add, mul-add-lt, mul-le}
-use Rattle.cal_alloc.specs.PointerOffset.{pointer_offset, offset_of}
+use Rattle.std.proofs.Common.{◌≡◌, ℕ, ◌+◌, ◌*◌, ◌/◌, ◌<◌, ◌≤◌, true, false, ◌∙◌, ap, arith}
+use Rattle.std.proofs.lemmas.Nat.{div-mul-add}
+use Rattle.cal_alloc.specs.PointerOffset.{pointer_offset}
 use Rattle.cal_alloc.specs.Pool.{Pool, IsSoundPool, start_of, bucket_at, is_used, with_mark, GivesFreeBucket}
 
 -- the bucket at the place where a bucket starts is that bucket

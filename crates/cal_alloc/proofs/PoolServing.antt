@@ -1,12 +1,12 @@
 -- Memory that is set up by a pool's hint: it fits, and serves the layout that was asked for.
-use Rattle.std.proofs.Common.{◌≡◌, ◌≢◌, ℕ, zero, suc, ◌+◌, ◌*◌, ◌/◌, ◌^◌, ◌<◌, ◌≤◌, max, Bool, true, false, ◌&&◌, IsTrue, nat_le, nat_lt, if◌then◌else◌, List, Option, Some, None, length, replicate, refl, sym, ◌∙◌, ap, subst, arith, ◌⊎◌, inl, inr}
+use Rattle.std.proofs.Common.{◌≡◌, ◌≢◌, ℕ, zero, suc, ◌+◌, ◌*◌, ◌/◌, ◌^◌, ◌<◌, ◌≤◌, max, Bool, true, false, ◌&&◌, IsTrue, nat_le, nat_lt, if◌then◌else◌, Some, None, replicate, refl, ◌∙◌, arith, ◌⊎◌, inl, inr}
 use Rattle.std.specs.Int.{next_multiple_of, is_power_of_two}
 use Rattle.std.specs.List.{list_all}
-use Rattle.std.proofs.lemmas.Bool.{false≢true, cases_lt}
+use Rattle.std.proofs.lemmas.Bool.{cases_lt}
 use Rattle.std.proofs.Math.Nat.{mul-div_cancel_left, zero-div, zero-mul}
 use Rattle.cal_alloc.specs.Growth.{Buckets, padded_size, fits_bucket, raised_count, raised_size, raised_buckets, grown_buckets, least_power_of_two}
 use Rattle.cal_alloc.specs.Hints.{is_in_range, pool_setup_hint, pool_resize_hint}
-use Rattle.cal_alloc.specs.Pool.{Pool, IsSoundPool, buckets_within, pool_fits, new_pool, is_full, pool_refusal}
+use Rattle.cal_alloc.specs.Pool.{Pool, IsSoundPool, pool_fits, new_pool, is_full, pool_refusal}
 use Rattle.cal_alloc.specs.SizeAndAlignment.{SizeAndAlignment}
 use Rattle.cal_alloc.specs.declared.allocation_strategy.AllocationStrategy.{AllocationStrategy}
 use Rattle.cal_alloc.specs.declared.allocation_strategy.AllocationStrategy.TheVariants.{BestFit, PowerOfTwo, Static}

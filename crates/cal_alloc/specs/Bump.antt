@@ -1,5 +1,5 @@
 -- A bump allocator: its memory is used from the front on, and nothing is given back.
-use Rattle.std.specs.Prelude.{ℕ, ◌+◌, ◌^◌, ◌<◌, ◌≤◌, ◌≡◌, Bool, false, nat_lt, nat_le, ◌==◌, if◌then◌else◌, Option, Some, None}
+use Rattle.std.specs.Prelude.{ℕ, ◌+◌, ◌<◌, ◌≤◌, ◌≡◌, Bool, false, nat_lt, ◌==◌, if◌then◌else◌, Option, Some, None}
 use Rattle.std.specs.Int.{next_multiple_of}
 use Rattle.cal_alloc.specs.Chunks.{Properties}
 use Rattle.cal_alloc.specs.SizeAndAlignment.{SizeAndAlignment}

@@ -1,8 +1,8 @@
 -- The laws of allocators, at a bump allocator.
-use Rattle.std.proofs.Common.{◌≡◌, ℕ, ◌+◌, ◌*◌, ◌/◌, ◌%◌, ◌<◌, ◌≤◌, Bool, true, false, nat_lt, Option, Some, None, refl, sym, ◌∙◌, ap, subst, arith, ◌⊎◌, inl, inr}
+use Rattle.std.proofs.Common.{◌≡◌, ℕ, ◌+◌, ◌<◌, ◌≤◌, true, Some, None, refl, ap, arith, ◌⊎◌, inl, inr}
 use Rattle.std.proofs.lemmas.Bool.{cases_lt}
-use Rattle.cal_alloc.specs.Chunks.{chunk_size, IsInChunk, TakesChunk, FreesChunk, IsNew, IsReadied, IsAllocation, IsDeallocation}
-use Rattle.cal_alloc.specs.PointerOffset.{pointer_offset, offset_of, segment_of}
+use Rattle.cal_alloc.specs.Chunks.{chunk_size, IsInChunk, TakesChunk, IsNew, IsReadied, IsAllocation, IsDeallocation}
+use Rattle.cal_alloc.specs.PointerOffset.{offset_of}
 use Rattle.cal_alloc.specs.SizeAndAlignment.{SizeAndAlignment}
 use Rattle.cal_alloc.specs.Bump.{Bump, new_bump, next_place, bump_refusal, bump_properties, GivesNextPlace, IsBelowUsed, IsOutBelowUsed, IsSkippedBefore}
 use Rattle.cal_alloc.specs.declared.shm_allocator.ShmAllocationError.TheVariants.{SizeIsZero}

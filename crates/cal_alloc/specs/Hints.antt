@@ -1,7 +1,7 @@
 -- What memory an allocator proposes: a payload size, and the configuration to go with it; None where that is out of range.
 use Rattle.std.specs.Prelude.{ℕ, ◌+◌, ◌*◌, ◌^◌, ◌-◌, Bool, ◌&&◌, nat_lt, nat_le, if◌then◌else◌, Option, Some, None}
 use Rattle.std.specs.Int.{next_multiple_of}
-use Rattle.cal_alloc.specs.Growth.{Buckets, grown_buckets, least_power_of_two}
+use Rattle.cal_alloc.specs.Growth.{grown_buckets, least_power_of_two}
 use Rattle.cal_alloc.specs.SizeAndAlignment.{SizeAndAlignment}
 use Rattle.cal_alloc.specs.Pool.{Pool, is_full}
 use Rattle.cal_alloc.specs.Bump.{Bump}

@@ -1,6 +1,6 @@
 -- A pool: a row of equal buckets, each free or used. A bucket is named by its number, from 0, and starts at that number
 -- times the bucket size.
-use Rattle.std.specs.Prelude.{ℕ, ◌+◌, ◌*◌, ◌/◌, ◌^◌, ◌<◌, ◌≤◌, ◌≡◌, IsTrue, length, List, Bool, true, false, ◌&&◌, nat_lt, nat_le, if◌then◌else◌, Option, Some, None, slice_index_or, slice_set, replicate, count_by}
+use Rattle.std.specs.Prelude.{ℕ, ◌*◌, ◌/◌, ◌^◌, ◌<◌, ◌≤◌, ◌≡◌, IsTrue, length, List, Bool, true, false, ◌&&◌, nat_lt, nat_le, if◌then◌else◌, Option, Some, None, slice_index_or, slice_set, replicate, count_by}
 use Rattle.std.specs.List.{list_all}
 use Rattle.std.specs.Int.{is_power_of_two, next_multiple_of}
 use Rattle.cal_alloc.specs.Growth.{Buckets, padded_size}

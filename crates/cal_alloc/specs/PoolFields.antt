@@ -1,7 +1,6 @@
 -- what a pool's fields stand for, and what they keep
-use Rattle.std.specs.Prelude.{ℕ, ◌*◌, ◌^◌, ◌<◌, ◌≤◌, ◌≡◌, IsTrue, List, Bool, false, Option, Some, None, Vec, length, replicate, is_some}
+use Rattle.std.specs.Prelude.{ℕ, ◌≡◌, List, Bool, false, Option, Some, None, Vec, replicate, is_some}
 use Rattle.std.specs.declared.alloc.Global.{Global}
-use Rattle.cal_alloc.specs.Growth.{Buckets}
 use Rattle.cal_alloc.specs.Pool.{Pool, IsSoundPool, number_of_used}
 use Rattle.cal_alloc.specs.declared.pool_allocator.PoolAllocator.TheInside.{Inside}
 

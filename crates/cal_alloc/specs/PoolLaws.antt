@@ -1,14 +1,14 @@
 -- The laws of allocators, at a pool.
-use Rattle.std.proofs.Common.{◌≡◌, ◌≢◌, ℕ, ◌+◌, ◌*◌, ◌/◌, ◌%◌, ◌<◌, ◌≤◌, Bool, true, false, List, Option, Some, None, length, get_or, set, replicate, refl, sym, ◌∙◌, ap, subst, arith, ◌⊎◌, inl, inr, ⊎_elim}
+use Rattle.std.proofs.Common.{◌≡◌, ◌≢◌, ℕ, ◌+◌, ◌*◌, ◌/◌, ◌<◌, ◌≤◌, Bool, true, false, List, Some, None, length, get_or, set, replicate, refl, sym, ◌∙◌, ap, arith, ◌⊎◌, inl, inr}
 use Rattle.std.proofs.lemmas.Bool.{false≢true, cases_eq, cases_lt}
 use Rattle.std.proofs.lemmas.List.{get_or-set_same, get_or-set_other, get_or-replicate, get_or_past, length-replicate, length-set}
 use Rattle.std.proofs.lemmas.Nat.{div-add-mod', mod_below, mul-le}
 use Rattle.std.proofs.Math.Nat.{div-eq_of_lt-le, div-mul-le_self}
 use Rattle.cal_alloc.specs.Chunks.{chunk_size, IsInChunk, TakesChunk, FreesChunk, IsNew, IsReadied, IsAllocation, IsDeallocation}
 use Rattle.cal_alloc.specs.Growth.{padded_size}
-use Rattle.cal_alloc.specs.PointerOffset.{pointer_offset, offset_of, segment_of}
+use Rattle.cal_alloc.specs.PointerOffset.{offset_of}
 use Rattle.cal_alloc.specs.SizeAndAlignment.{SizeAndAlignment}
-use Rattle.cal_alloc.specs.Pool.{Pool, new_pool, is_used, start_of, bucket_at, with_mark, given_back, pool_refusal, pool_properties, GivesFreeBucket, FreesBucket, IsUsedBucket, IsInUsedBucket}
+use Rattle.cal_alloc.specs.Pool.{Pool, new_pool, start_of, bucket_at, pool_refusal, pool_properties, GivesFreeBucket, FreesBucket, IsUsedBucket, IsInUsedBucket}
 use Rattle.cal_alloc.specs.declared.shm_allocator.ShmAllocationError.TheVariants.{SizeIsZero}
 
 -- ---- the bucket of a byte

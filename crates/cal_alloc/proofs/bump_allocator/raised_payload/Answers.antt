@@ -1,4 +1,4 @@
-use Rattle.std.proofs.Common.{◌≡◌, ◌+◌, ◌<◌, ◌≤◌, ◌^◌, None, arith, rules}
+use Rattle.std.proofs.Common.{◌≡◌, ◌+◌, ◌<◌, ◌^◌, None, arith, rules}
 use Rattle.cal_alloc.proofs.Powers.{least_power_of_two-ge}
 use Rattle.cal_alloc.proofs.bump_allocator.raised_payload.Goals as goal
 

@@ -1,5 +1,4 @@
-use Rattle.std.proofs.Common.{◌≡◌, ◌<◌, ◌^◌, refl, arith}
-use Rattle.cal_alloc.specs.Growth.{least_power_of_two}
+use Rattle.std.proofs.Common.{refl, arith}
 use Rattle.cal_alloc.proofs.Powers.{least_power_of_two-is, least_power_of_two-far}
 use Rattle.cal_alloc.proofs.growth.least_power_of_two.Goals as goal
 

@@ -1,4 +1,4 @@
-use Rattle.std.proofs.Common.{◌≡◌, ap, arith}
+use Rattle.std.proofs.Common.{ap}
 use Rattle.cal_alloc.specs.Pool.{Pool}
 use Rattle.cal_alloc.proofs.PoolFacts.{is_full-kept, not_full-kept}
 use Rattle.cal_alloc.proofs.pool_allocator.PoolAllocator.raised_count.Goals as goal

@@ -1,4 +1,4 @@
-use Rattle.std.proofs.Common.{◌≡◌, ◌*◌, ◌<◌, ◌≤◌, ◌^◌, arith, rules}
+use Rattle.std.proofs.Common.{◌≡◌, ◌*◌, ◌<◌, ◌^◌, arith, rules}
 use Rattle.std.specs.Int.{next_multiple_of}
 use Rattle.cal_alloc.proofs.Padding.{positive_power, next_multiple_of-twice}
 use Rattle.cal_alloc.proofs.PoolServing.{setup_hint_fits}
