@@ -42,6 +42,16 @@ fn place_after_growth<A: ShmAllocator>(
     Ok(next.allocate(layout).unwrap())
 }
 
+/// The place of a second chunk, where the first was given back before it. That the first is out, and that the allocator
+/// still serves then, is proved from the laws of the trait alone.
+fn place_after_return<A: ShmAllocator>(allocator: &mut A, layout: Layout) -> Option<PointerOffset>
+    requires { IsTrue (A.properties allocator.old).is_ready }
+{
+    let place = allocator.allocate(layout).ok()?;
+    allocator.deallocate(place, layout);
+    allocator.allocate(layout).ok()
+}
+
 fn layout(size: usize, alignment: usize) -> Result<Layout, Fail>
     ensures { IfOk result (λ layout. layout ≡ record { size = size; alignment = alignment }) }
 {
@@ -248,6 +258,21 @@ fn hints_end_at_their_limits(rt: HostRuntime) -> Result<(), Fail> {
             "{memory_size} by {size}"
         );
     }
+    Ok(())
+}
+
+#[test]
+fn a_pool_alone_gives_a_place_again(rt: HostRuntime) -> Result<(), Fail> {
+    let mut pool = pool(rt.alloc(), 24, layout(24, 8)?)?;
+    let mut bump = bump(rt.alloc())?;
+    assert_eq!(rt;
+        place_after_return(&mut pool, layout(24, 8)?),
+        Some(PointerOffset::new(0))
+    );
+    assert_eq!(rt;
+        place_after_return(&mut bump, layout(24, 8)?),
+        Some(PointerOffset::new(24))
+    );
     Ok(())
 }
 
