@@ -8,7 +8,7 @@ use Rattle.std.specs.Vec.{with_item}
 use Rattle.std.specs.declared.alloc.Global.{Global}
 use Rattle.std.proofs.lemmas.List.Folds.{sum_by-replicate}
 use Rattle.std.proofs.lemmas.List.Sums.{sum_by-set}
-use Rattle.cal_alloc.specs.Growth.{padded_size}
+use Rattle.cal_alloc.specs.Growth.{bucket_size_of}
 use Rattle.cal_alloc.specs.Pool.{Pool, IsSoundPool, is_full, number_of_used, pool_fits, new_pool, with_mark, GivesFreeBucket}
 use Rattle.cal_alloc.specs.PointerOffset.{pointer_offset}
 use Rattle.cal_alloc.specs.PoolFields.{marks_of, pool_of, IsKept}
@@ -37,7 +37,7 @@ used-kept a marks is = ap (marks_of a.number_of_buckets) is
 -- a new pool is sound
 pub new_pool-sound : (memory_alignment memory_size : ℕ) (layout : SizeAndAlignment) → IsTrue (pool_fits memory_size layout) → IsTrue (is_power_of_two layout.alignment) → IsSoundPool (new_pool memory_alignment memory_size layout)
 new_pool-sound memory_alignment memory_size layout fits power =
-    let size = padded_size layout.size layout.alignment in
+    let size = bucket_size_of layout.size layout.alignment in
     record {
       not_empty = omega arith;
       power = power;
@@ -46,11 +46,11 @@ new_pool-sound memory_alignment memory_size layout fits power =
       marked = length-replicate (memory_size / size) false;
     }
 
-pub kept_new : (memory_alignment memory_size : ℕ) (layout : SizeAndAlignment) → IsTrue (pool_fits memory_size layout) → IsTrue (is_power_of_two layout.alignment) → (size alignment : ℕ) → size ≡ padded_size layout.size layout.alignment → alignment ≡ layout.alignment → IsKept (record { bucket_size = size; alignment = alignment; number_of_buckets = memory_size / size; memory_alignment = memory_alignment; used = None; number_of_used = 0 })
+pub kept_new : (memory_alignment memory_size : ℕ) (layout : SizeAndAlignment) → IsTrue (pool_fits memory_size layout) → IsTrue (is_power_of_two layout.alignment) → (size alignment : ℕ) → size ≡ bucket_size_of layout.size layout.alignment → alignment ≡ layout.alignment → IsKept (record { bucket_size = size; alignment = alignment; number_of_buckets = memory_size / size; memory_alignment = memory_alignment; used = None; number_of_used = 0 })
 kept_new memory_alignment memory_size layout fits power size alignment is_size is_alignment =
     rw (is_size, is_alignment) (record {
       sound = new_pool-sound memory_alignment memory_size layout fits power;
-      counted = omega (arith, sum_by-replicate {X = Bool} (λ mark. cond mark 1 0) (memory_size / padded_size layout.size layout.alignment) false);
+      counted = omega (arith, sum_by-replicate {X = Bool} (λ mark. cond mark 1 0) (memory_size / bucket_size_of layout.size layout.alignment) false);
     })
 
 -- a free bucket among the marks that a pool keeps

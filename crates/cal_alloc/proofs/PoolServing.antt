@@ -4,7 +4,7 @@ use Rattle.std.specs.Int.{next_multiple_of, is_power_of_two}
 use Rattle.std.specs.List.{list_all}
 use Rattle.std.proofs.lemmas.Bool.{cases_lt}
 use Rattle.std.proofs.Math.Nat.{mul-div_cancel_left, zero-div, zero-mul}
-use Rattle.cal_alloc.specs.Growth.{Buckets, padded_size, fits_bucket, raised_count, raised_size, raised_buckets, grown_buckets, least_power_of_two}
+use Rattle.cal_alloc.specs.Growth.{Buckets, bucket_size_of, fits_bucket, raised_count, raised_size, raised_buckets, grown_buckets, least_power_of_two}
 use Rattle.cal_alloc.specs.Hints.{is_in_range, pool_setup_hint, pool_resize_hint}
 use Rattle.cal_alloc.specs.Pool.{Pool, IsSoundPool, pool_fits, new_pool, is_full, pool_refusal}
 use Rattle.cal_alloc.specs.SizeAndAlignment.{SizeAndAlignment}
@@ -17,8 +17,8 @@ use Rattle.cal_alloc.specs.declared.shm_allocator.SharedMemorySetupHint.{SharedM
 use Rattle.cal_alloc.specs.declared.pool_allocator.Config.{Config}
 
 -- a size that is padded already is a bucket's size, unless it is 0
-pub padded_size-padded : (size alignment : ℕ) → 0 < size → next_multiple_of size alignment ≡ size → padded_size size alignment ≡ size
-padded_size-padded size alignment positive padded =
+pub bucket_size_of-padded : (size alignment : ℕ) → 0 < size → next_multiple_of size alignment ≡ size → bucket_size_of size alignment ≡ size
+bucket_size_of-padded size alignment positive padded =
     let same : max 1 size ≡ size = omega arith in rw same padded
 
 all-true : (payload size count : ℕ) → payload ≤ 2 ^ 56 → size < 2 ^ 64 → count < 2 ^ 32 → (nat_le payload (2 ^ 56) && (nat_lt size (2 ^ 64) && nat_lt count (2 ^ 32))) ≡ true
@@ -33,12 +33,12 @@ setup_hint_fits size alignment count payload power low small padded is_payload w
 
     from : (0 < size) ⊎ (size ≤ 0) → IsTrue (pool_fits payload (record { size = size; alignment = alignment }))
     from (inl some) =
-        let same = padded_size-padded size alignment some padded in
+        let same = bucket_size_of-padded size alignment some padded in
         let whole : size * count / size ≡ count = mul-div_cancel_left count some in
         rw (same, is_payload, whole) (all-true (size * count) size count (omega (arith, within, is_payload)) small few)
     from (inr none) =
         let zero_size : size ≡ 0 = omega arith in
-        let same : padded_size size alignment ≡ alignment = rw zero_size (next_multiple_of-one alignment positive) in
+        let same : bucket_size_of size alignment ≡ alignment = rw zero_size (next_multiple_of-one alignment positive) in
         let nothing : payload ≡ 0 = rw zero_size at is_payload ∙ zero-mul count in
         let no_bucket : 0 / alignment ≡ 0 = zero-div alignment in
         rw (same, nothing, no_bucket) (all-true 0 alignment 0 (omega arith) low (omega arith))
@@ -129,7 +129,7 @@ pub resize_hint_serves : (pool : Pool) (layout : SizeAndAlignment) (strategy : A
 resize_hint_serves pool layout strategy hint sound growing given memory_alignment =
     let grown = grown_buckets strategy pool.buckets (is_full pool) layout.size layout.alignment in
     let serves = grown_buckets-Serves strategy pool.buckets (is_full pool) layout.size layout.alignment growing sound.not_empty sound.power sound.padded (some_bucket pool sound) in
-    let same = padded_size-padded grown.size grown.alignment serves.not_empty serves.padded in
+    let same = bucket_size_of-padded grown.size grown.alignment serves.not_empty serves.padded in
     let whole : grown.size * grown.count / grown.size ≡ grown.count = mul-div_cancel_left grown.count serves.not_empty in
     rw (setup_hint-is (record { size = grown.size; alignment = grown.alignment }) grown.count hint given, serves.padded, same, whole)
     (Serves-served grown memory_alignment layout serves)

@@ -10,9 +10,13 @@ pub record Buckets : Type 0 where
   pub alignment : ℕ
   pub count : ℕ
 
--- the bucket that a chunk takes: its size, at least one byte, rounded up to its alignment
+-- a size rounded up to an alignment
 abbrev pub padded_size : ℕ → ℕ → ℕ
-padded_size size alignment = next_multiple_of (max 1 size) alignment
+padded_size size alignment = next_multiple_of size alignment
+
+-- the bucket that a pool cuts for chunks of this layout: an empty chunk counts as one byte
+abbrev pub bucket_size_of : ℕ → ℕ → ℕ
+bucket_size_of size alignment = padded_size (max 1 size) alignment
 
 -- p, doubled at most as often as the first number says until it is n or more
 abbrev pub doubled_to : ℕ → ℕ → ℕ → ℕ
@@ -35,8 +39,8 @@ raised_count Static count = count
 
 -- a strategy raises a bucket size, which stays a multiple of the alignment
 abbrev pub raised_size : AllocationStrategy → ℕ → ℕ → ℕ
-raised_size BestFit size alignment = next_multiple_of size alignment
-raised_size PowerOfTwo size alignment = next_multiple_of (least_power_of_two size) alignment
+raised_size BestFit size alignment = padded_size size alignment
+raised_size PowerOfTwo size alignment = padded_size (least_power_of_two size) alignment
 raised_size Static size alignment = size
 
 -- the row after this one: more buckets where each was used, larger ones where the chunk didn't fit

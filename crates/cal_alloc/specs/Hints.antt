@@ -1,7 +1,6 @@
 -- What memory an allocator proposes: a payload size, and the configuration to go with it; None where that is out of range.
 use Rattle.std.specs.Prelude.{ℕ, ◌+◌, ◌*◌, ◌^◌, ◌-◌, Bool, ◌&&◌, nat_lt, nat_le, if◌then◌else◌, Option, Some, None}
-use Rattle.std.specs.Int.{next_multiple_of}
-use Rattle.cal_alloc.specs.Growth.{grown_buckets, least_power_of_two}
+use Rattle.cal_alloc.specs.Growth.{padded_size, grown_buckets, least_power_of_two}
 use Rattle.cal_alloc.specs.SizeAndAlignment.{SizeAndAlignment}
 use Rattle.cal_alloc.specs.Pool.{Pool, is_full}
 use Rattle.cal_alloc.specs.Bump.{Bump}
@@ -18,7 +17,7 @@ is_in_range size count = nat_le (size * count) (2 ^ 56) && (nat_lt count (2 ^ 32
 -- memory for so many buckets of that layout, whose size is padded to the alignment
 abbrev pub pool_setup_hint : SizeAndAlignment → ℕ → Option (SharedMemorySetupHint PoolConfig.Config)
 pool_setup_hint layout count =
-    let size = next_multiple_of layout.size layout.alignment in
+    let size = padded_size layout.size layout.alignment in
     if is_in_range size count
     then Some (record { payload_size = size * count; config = record { bucket_layout = record { size = size; alignment = layout.alignment } } })
     else None

@@ -3,7 +3,7 @@
 use Rattle.std.specs.Prelude.{ℕ, ◌*◌, ◌/◌, ◌^◌, ◌<◌, ◌≤◌, ◌≡◌, IsTrue, length, List, Bool, true, false, ◌&&◌, nat_lt, nat_le, if◌then◌else◌, Option, Some, None, slice_index_or, slice_set, replicate, count_by}
 use Rattle.std.specs.List.{list_all}
 use Rattle.std.specs.Int.{is_power_of_two, next_multiple_of}
-use Rattle.cal_alloc.specs.Growth.{Buckets, padded_size}
+use Rattle.cal_alloc.specs.Growth.{Buckets, bucket_size_of}
 use Rattle.cal_alloc.specs.Chunks.{Properties}
 use Rattle.cal_alloc.specs.SizeAndAlignment.{SizeAndAlignment}
 use Rattle.cal_alloc.specs.PointerOffset.{pointer_offset, offset_of}
@@ -21,9 +21,9 @@ pub record Pool : Type 0 where
 -- the buckets that memory of this size is cut into
 abbrev pub buckets_within : ℕ → SizeAndAlignment → Buckets
 buckets_within memory_size layout = record {
-  size = padded_size layout.size layout.alignment;
+  size = bucket_size_of layout.size layout.alignment;
   alignment = layout.alignment;
-  count = memory_size / padded_size layout.size layout.alignment;
+  count = memory_size / bucket_size_of layout.size layout.alignment;
 }
 
 -- memory of this size can be cut into such buckets: at most 2 ^ 56 bytes, buckets below 2 ^ 64 bytes, and fewer than

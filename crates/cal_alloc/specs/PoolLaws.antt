@@ -5,7 +5,7 @@ use Rattle.std.proofs.lemmas.List.{get_or-set_same, get_or-set_other, get_or-rep
 use Rattle.std.proofs.lemmas.Nat.{div-add-mod', mod_below, mul-le}
 use Rattle.std.proofs.Math.Nat.{div-eq_of_lt-le, div-mul-le_self}
 use Rattle.cal_alloc.specs.Chunks.{chunk_size, IsInChunk, TakesChunk, FreesChunk, IsNew, IsReadied, IsAllocation, IsDeallocation}
-use Rattle.cal_alloc.specs.Growth.{padded_size}
+use Rattle.cal_alloc.specs.Growth.{bucket_size_of}
 use Rattle.cal_alloc.specs.PointerOffset.{offset_of}
 use Rattle.cal_alloc.specs.SizeAndAlignment.{SizeAndAlignment}
 use Rattle.cal_alloc.specs.Pool.{Pool, new_pool, start_of, bucket_at, pool_refusal, pool_properties, GivesFreeBucket, FreesBucket, IsUsedBucket, IsInUsedBucket}
@@ -72,7 +72,7 @@ none_used count bucket = from (cases_lt bucket count)
 
 pub new_pool-IsNew : (memory_alignment memory_size : ℕ) (layout : SizeAndAlignment) → IsNew (pool_properties (new_pool memory_alignment memory_size layout)) (IsInUsedBucket (new_pool memory_alignment memory_size layout)) memory_alignment memory_size
 new_pool-IsNew memory_alignment memory_size layout =
-    let size = padded_size layout.size layout.alignment in
+    let size = bucket_size_of layout.size layout.alignment in
     record {
       total = div-mul-le_self memory_size size;
       alignment = refl;

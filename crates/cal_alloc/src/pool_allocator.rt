@@ -1,7 +1,7 @@
 //! The pool cuts its memory into equal buckets and hands each out whole.
 
 ghost use Rattle.std.specs.Prelude.{◌≡◌, ◌<◌, ◌^◌, true, not, IsTrue, IsFalse, SomeIff, position, refl, if◌then◌else◌};
-ghost use Rattle.cal_alloc.specs.Growth.{padded_size, grown_buckets, raised_count};
+ghost use Rattle.cal_alloc.specs.Growth.{bucket_size_of, grown_buckets, raised_count};
 ghost use Rattle.cal_alloc.specs.Hints.{pool_setup_hint, pool_resize_hint};
 ghost use Rattle.cal_alloc.specs.Pool.{IsSoundPool, pool_fits, buckets_within, new_pool, is_full, number_of_used, pool_properties, pool_refusal, GivesFreeBucket, IsUsedBucket, IsInUsedBucket, given_back, FreesBucket};
 ghost use Rattle.cal_alloc.specs.PoolLaws.{new_pool-IsNew, readied_pool-IsReadied, GivesFreeBucket-IsAllocation, FreesBucket-IsDeallocation, pool_served, pool_refused_empty};
@@ -22,7 +22,7 @@ const MAX_NUMBER_OF_BUCKETS: usize = (1 << 32) - 1;
 
 /// The size of a bucket for that layout: at least one byte, rounded up to the alignment; `None` from 2^64 on.
 fn bucket_size(layout: Layout) -> Option<usize>
-    ensures { let size = padded_size layout.size layout.alignment in
+    ensures { let size = bucket_size_of layout.size layout.alignment in
         SomeIff result (size < 2 ^ 64) size }
 {
     checked_next_multiple_of(layout.size().max(1), layout.align())

@@ -1,0 +1,14 @@
+pub mod Changing
+pub mod Discarding
+pub mod Lists
+pub mod Lookup
+pub mod Names
+pub mod Reading
+pub mod Receiving
+pub mod Reclaiming
+pub mod Releasing
+pub mod Sending
+pub mod Steps
+pub mod Update
+pub mod Writes
+pub mod Writing

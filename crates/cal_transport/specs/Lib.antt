@@ -1,0 +1,12 @@
+pub use Rattle.cal_alloc.specs.Growth
+pub mod Replies
+pub mod Settings
+pub mod Ledger
+pub mod Cause
+pub mod Step
+pub mod Entry
+pub mod Parts
+pub mod PartsOf
+pub mod Rules
+pub mod Run
+pub mod Examples

@@ -1,0 +1,99 @@
+-- Runs of the ledger: steps for a list of commands, and the chunks that are in transit after them.
+use Rattle.std.specs.Prelude.{ℕ, ◌+◌, ◌<◌, ◌≡◌, Bool, true, false, not, ◌&&◌, ◌==◌, nat_le, IsTrue, MatchBool, length, filter, map, flat_map, List, [], ◌∷◌, Option, Some, None}
+use Rattle.cal_alloc.specs.declared.allocation_strategy.AllocationStrategy.{AllocationStrategy}
+use Rattle.cal_transport.specs.declared.settings.Settings.{Settings}
+use Rattle.cal_transport.specs.declared.command.Command.{Command}
+use Rattle.cal_transport.specs.declared.command.Command.TheVariants as command
+use Rattle.cal_transport.specs.declared.reply.Reply.{Reply}
+use Rattle.cal_transport.specs.declared.reply.Reply.TheVariants.{Transit}
+use Rattle.cal_transport.specs.declared.run.RunError.{RunError}
+use Rattle.cal_transport.specs.declared.run.RunError.TheVariants.{Create, NoMemory, NotBuilt}
+use Rattle.cal_transport.specs.Settings.{create_cause}
+use Rattle.cal_transport.specs.Ledger.{Ledger, Chunk, first_ledger, channel_at, buckets_at, numbers_below, is_in_transit}
+use Rattle.cal_transport.specs.Cause.{cause, needs_segment, is_static}
+use Rattle.cal_transport.specs.Step.{Answers, after, slot_of}
+
+-- the chunks in transit on a channel that have this bucket: one at most
+abbrev pub transit_at : Ledger → ℕ → ℕ → ℕ → List Chunk
+transit_at l channel segment bucket =
+    filter (λ chunk. chunk.segment == segment && chunk.bucket == bucket && is_in_transit (channel_at l channel) chunk.name) l.chunks
+
+-- the chunks in transit on a channel, by segment and bucket
+abbrev pub transit_on : Ledger → ℕ → List Chunk
+transit_on l channel =
+    flat_map (λ segment. flat_map (transit_at l channel segment) (numbers_below (buckets_at l segment).count))
+    (numbers_below (length l.segments))
+
+-- the chunks in transit, by channel, segment and bucket
+abbrev pub transit_list : Ledger → List Reply
+transit_list l =
+    flat_map (λ channel. map (λ chunk. Transit channel (slot_of l chunk)) (transit_on l channel))
+    (numbers_below (length l.channels))
+
+-- the replies answer the first commands, one after another; the first of them is at this place
+abbrev pub AreSteps : Ledger → ℕ → List Command → List Reply → Type 0
+AreSteps l place commands [] = Unit {0}
+AreSteps l place [] (reply ∷ replies) = ⊥
+AreSteps l place (asked ∷ commands) (reply ∷ replies) =
+    Answers l place asked reply × AreSteps (after l place asked reply) (place + 1) commands replies
+
+-- the ledger after these answers
+abbrev pub after_steps : Ledger → ℕ → List Command → List Reply → Ledger
+after_steps l place commands [] = l
+after_steps l place [] (reply ∷ replies) = l
+after_steps l place (asked ∷ commands) (reply ∷ replies) =
+    after_steps (after l place asked reply) (place + 1) commands replies
+
+-- the replies answer every command, and then name the chunks in transit, and nothing more
+abbrev pub AreStepsAndTransit : Ledger → ℕ → List Command → List Reply → Type 0
+AreStepsAndTransit l place [] replies = replies ≡ transit_list l
+AreStepsAndTransit l place (asked ∷ commands) [] = ⊥
+AreStepsAndTransit l place (asked ∷ commands) (reply ∷ replies) =
+    Answers l place asked reply × AreStepsAndTransit (after l place asked reply) (place + 1) commands replies
+
+-- the replies are a run of the commands over a transport with these settings
+abbrev pub IsRun : Settings → List Command → List Reply → Type 0
+IsRun settings commands replies = AreStepsAndTransit (first_ledger settings) 1 commands replies
+
+-- ---- where a run stops
+
+-- the replies answer the first commands, and what comes next meets a condition
+abbrev pub StopsAt : (Ledger → Command → Type 0) → Ledger → ℕ → List Command → List Reply → Type 0
+StopsAt P l place [] replies = ⊥
+StopsAt P l place (asked ∷ commands) [] = P l asked
+StopsAt P l place (asked ∷ commands) (reply ∷ replies) =
+    Answers l place asked reply × StopsAt P (after l place asked reply) (place + 1) commands replies
+
+-- the command is one that takes memory: a loan that needs a segment, or a read of some bytes
+abbrev pub TakesMemory : Ledger → Command → Type 0
+TakesMemory l (command.Loan size alignment) = IsTrue (needs_segment l size alignment)
+TakesMemory l (command.Read channel name at length) = (0 < length) × (cause l (command.Read channel name at length) ≡ None)
+TakesMemory l asked = ⊥
+
+-- memory ran out while the transport was made, or at a command that takes some
+abbrev pub StopsForMemory : Settings → List Command → List Reply → Type 0
+StopsForMemory settings commands [] = Unit {0}
+StopsForMemory settings commands (reply ∷ replies) =
+    StopsAt TakesMemory (first_ledger settings) 1 commands (reply ∷ replies)
+
+-- ---- what isn't built yet: memory that grows, overflow, several channels, and counting
+
+abbrev pub is_built : Settings → Bool
+is_built settings = is_static settings.strategy && not settings.overflow && nat_le settings.channels 1
+
+abbrev pub IsCount : Ledger → Command → Type 0
+IsCount l asked = asked ≡ command.Count
+
+-- the settings aren't built, or the next command isn't
+abbrev pub StopsUnbuilt : Settings → List Command → List Reply → Type 0
+StopsUnbuilt settings commands replies =
+    MatchBool (is_built settings) (StopsAt IsCount (first_ledger settings) 1 commands replies) (replies ≡ [])
+
+-- ---- how a run ends otherwise
+
+-- why there is no run
+abbrev pub HasError : Settings → List Command → RunError → Type 0
+HasError settings commands (Create found) = create_cause settings ≡ Some found
+HasError settings commands (NotBuilt replies) = (create_cause settings ≡ None) × StopsUnbuilt settings commands replies.items
+HasError settings commands (NoMemory replies) =
+    (create_cause settings ≡ None) × IsTrue (is_built settings) × StopsForMemory settings commands replies.items

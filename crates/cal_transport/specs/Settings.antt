@@ -1,0 +1,47 @@
+-- Settings as they count, and why a transport can't be made with them.
+use Rattle.std.specs.Prelude.{ℕ, ◌+◌, ◌*◌, ◌^◌, max, Bool, true, not, ◌||◌, ◌==◌, nat_lt, nat_le, if◌then◌else◌, Option, Some, None}
+use Rattle.std.specs.Int.{is_power_of_two}
+use Rattle.cal_alloc.specs.Growth.{Buckets, padded_size}
+use Rattle.cal_transport.specs.declared.settings.Settings.{Settings}
+use Rattle.cal_transport.specs.declared.settings.CreateCause.{CreateCause}
+use Rattle.cal_transport.specs.declared.settings.CreateCause.TheVariants.{BadLayout, SizeOutOfRange, SizeIsZero, InternalError}
+
+-- a zero buffer, borrow limit, number of samples, of segments or of channels counts as one
+abbrev pub clamped : Settings → Settings
+clamped s = record s {
+  buffer = max 1 s.buffer;
+  borrow = max 1 s.borrow;
+  samples = max 1 s.samples;
+  segments = max 1 s.segments;
+  channels = max 1 s.channels;
+}
+
+-- the first segment's buckets
+abbrev pub first_buckets : Settings → Buckets
+first_buckets s = record { size = padded_size s.size s.alignment; alignment = s.alignment; count = s.count }
+
+-- how many chunks the completion queue of a channel holds
+abbrev pub completion_size : Settings → ℕ
+completion_size s = s.buffer + s.borrow + 1
+
+-- the bytes of a segment of these buckets
+abbrev pub payload : Buckets → ℕ
+payload buckets = buckets.size * buckets.count
+
+-- a segment of these buckets is larger than any can be
+abbrev pub is_too_large : Buckets → Bool
+is_too_large buckets = nat_lt (2 ^ 56) (payload buckets) || nat_le (2 ^ 32) buckets.count
+
+-- a connection with these settings is larger than any can be
+abbrev pub has_too_large_connection : Settings → Bool
+has_too_large_connection s =
+    nat_le (2 ^ 63) (completion_size s) || nat_le (2 ^ 63) (s.samples * s.segments * s.channels)
+
+-- why no transport can be made with these settings: the first cause that holds
+abbrev pub create_cause : Settings → Option CreateCause
+create_cause s =
+    if not (is_power_of_two s.alignment) then Some BadLayout
+    else if is_too_large (first_buckets s) || has_too_large_connection (clamped s) then Some SizeOutOfRange
+    else if payload (first_buckets s) == 0 then Some SizeIsZero
+    else if nat_lt 4096 s.alignment then Some InternalError
+    else None

@@ -1,0 +1,20 @@
+//! The transport: commands and replies, the ledger that they are a run of, and the calls that serve them.
+#![tactic(auto)]
+
+mod bytes;
+mod command;
+mod entry;
+pub mod examples;
+mod memory;
+mod replies;
+mod reply;
+mod run;
+mod settings;
+mod transport;
+
+pub use bytes::Bytes;
+pub use command::Command;
+pub use replies::Replies;
+pub use reply::{Count, Refusal, Reply, Slot};
+pub use run::{RunError, run_transport};
+pub use settings::{CreateCause, Settings};

@@ -1,0 +1,147 @@
+//! The sender's commands: loan, write, send, reclaim and discard.
+
+ghost use Rattle.std.specs.Prelude.{◌≡◌, ◌<◌, ◌+◌, ◌*◌, nat_lt, length, if◌then◌else◌};
+ghost use Rattle.cal_queue.specs.UsedChunks.{contains};
+ghost use Rattle.cal_alloc.specs.Pool.{IsUsedBucket, given_back};
+ghost use Rattle.cal_transport.specs.Rules.{write_rule, send_rule, WriteDoes, SendDoes, ReclaimDoes, DiscardDoes};
+
+use crate::entry::{Entry, entry_at, find_entry};
+use crate::memory::overwrite;
+use crate::reply::{Refusal, Slot};
+use crate::transport::Transport;
+use cal_alloc::{PointerOffset, PoolAllocator};
+
+impl Transport {
+    /// Writes bytes into a loaned chunk that wasn't sent yet.
+    pub(crate) fn write(&mut self, chunk: usize, at: usize, bytes: &[u8]) -> Result<(), Refusal>
+        ensures step { WriteDoes self.old chunk at bytes.now result self.new }
+    {
+        let Some(found) = find_entry(&self.entries, chunk) else {
+            return Err(Refusal::NotLoaned);
+        };
+        if let Some(refusal) = self.write_refusal(found.entry, at, bytes.len()) {
+            return Err(refusal);
+        }
+        let place = found.entry.bucket * self.pool.bucket_size() + at;
+        overwrite(&mut self.memory, place, bytes);
+        Ok(())
+    }
+
+    /// Why a chunk can't be written so, if it can't.
+    fn write_refusal(&self, entry: Entry, at: usize, length: usize) -> Option<Refusal>
+        ensures rule { result ≡ write_rule self.now entry at length }
+    {
+        if !entry.loaned {
+            Some(Refusal::NotLoaned)
+        } else if entry.sent {
+            Some(Refusal::WriteAfterSend)
+        } else if passes_end(self.pool.bucket_size(), at, length) {
+            Some(Refusal::OutsideChunk)
+        } else {
+            None
+        }
+    }
+
+    /// Queues a loaned chunk on a channel. Nothing overflows.
+    pub(crate) fn send(&mut self, channel: usize, chunk: usize) -> Result<Option<Slot>, Refusal>
+        ensures step { SendDoes self.old channel chunk result self.new }
+    {
+        let Some(found) = find_entry(&self.entries, chunk) else {
+            return Err(Refusal::NotLoaned);
+        };
+        if let Some(refusal) = self.send_refusal(channel, found.entry) {
+            return Err(refusal);
+        }
+        let pointer = PointerOffset::new(found.entry.bucket * self.pool.bucket_size());
+        self.submissions.push(pointer.as_value());
+        self.used.insert(found.entry.bucket);
+        self.entries[found.index] = Entry {
+            sent: true,
+            ..found.entry
+        };
+        Ok(None)
+    }
+
+    /// Why a chunk can't be sent on a channel, if it can't.
+    fn send_refusal(&self, channel: usize, entry: Entry) -> Option<Refusal>
+        ensures rule { result ≡ send_rule self.now channel entry }
+    {
+        if !entry.loaned {
+            Some(Refusal::NotLoaned)
+        } else if channel >= self.settings.channels || entry.bucket >= self.settings.samples {
+            Some(Refusal::OutsideConnection)
+        } else if self.used.contains(entry.bucket) {
+            Some(Refusal::AlreadyInTransit)
+        } else if self.submissions.is_full() {
+            Some(Refusal::ReceiveBufferFull)
+        } else {
+            None
+        }
+    }
+
+    /// Takes back the oldest chunk that the receiver gave back, if there is one.
+    pub(crate) fn reclaim(&mut self, channel: usize) -> Result<Option<Slot>, Refusal>
+        ensures step { ReclaimDoes self.old channel result self.new }
+    {
+        if channel >= self.settings.channels {
+            return Err(Refusal::OutsideConnection);
+        }
+        let Some(value) = self.completions.pop() else {
+            return Ok(None);
+        };
+        let pointer = PointerOffset::from_value(value);
+        let bucket = pointer.offset() / self.pool.bucket_size();
+        let found = entry_at(&self.entries, &self.owners, bucket);
+        self.used.remove(bucket);
+        give_back_unless(&mut self.pool, found.entry.loaned, pointer);
+        Ok(Some(Slot {
+            chunk: found.entry.name,
+            segment: 0,
+            place: pointer.offset(),
+        }))
+    }
+
+    /// Ends the loan of a chunk.
+    pub(crate) fn discard(&mut self, chunk: usize) -> Result<(), Refusal>
+        ensures step { DiscardDoes self.old chunk result self.new }
+    {
+        let Some(found) = find_entry(&self.entries, chunk) else {
+            return Err(Refusal::NotLoaned);
+        };
+        if !found.entry.loaned {
+            return Err(Refusal::NotLoaned);
+        }
+        let pointer = PointerOffset::new(found.entry.bucket * self.pool.bucket_size());
+        let in_transit = self.is_in_transit(found.entry.bucket);
+        give_back_unless(&mut self.pool, in_transit, pointer);
+        self.entries[found.index] = Entry {
+            loaned: false,
+            ..found.entry
+        };
+        Ok(())
+    }
+
+    /// Whether the chunk that has a bucket is in transit.
+    fn is_in_transit(&self, bucket: usize) -> bool
+        ensures used { result ≡ contains self.now.used bucket }
+    {
+        bucket < self.used.capacity() && self.used.contains(bucket)
+    }
+}
+
+/// Whether bytes at a place pass the end of a bucket of this size.
+pub(crate) fn passes_end(size: usize, at: usize, length: usize) -> bool
+    ensures passes { result ≡ nat_lt size (at + length) }
+{
+    at > size || length > size - at
+}
+
+/// Gives a bucket back, unless its chunk is kept.
+fn give_back_unless(pool: &mut PoolAllocator, kept: bool, pointer: PointerOffset)
+    requires used { IsUsedBucket pool.old pointer }
+    ensures freed { pool.new ≡ (if kept then pool.old else given_back pool.old pointer) }
+{
+    if !kept {
+        pool.deallocate_bucket(pointer);
+    }
+}
