@@ -1,10 +1,9 @@
 -- The least multiple of y that is x or more.
-use Rattle.std.proofs.Common.{◌≡◌, ℕ, zero, suc, ◌+◌, ◌-◌, ◌*◌, ◌/◌, ◌%◌, ◌<◌, ◌≤◌, max, IsTrue, nat_eq, refl, sym, ◌∙◌, ap, subst, arith, ◌⊎◌, inl, inr}
+use Rattle.std.proofs.Common.{◌≡◌, ℕ, zero, suc, ◌+◌, ◌-◌, ◌*◌, ◌/◌, ◌%◌, ◌<◌, ◌≤◌, IsTrue, refl, arith, ◌⊎◌, inl, inr}
 use Rattle.std.specs.Int.{next_multiple_of, is_power_of_two}
 use Rattle.std.proofs.lemmas.Nat.{div-add-mod', mod_below, mod-mul-add}
 use Rattle.std.proofs.Math.Nat.{mod_self, mod-eq_of_lt, sub-zero}
-use Rattle.std.proofs.lemmas.Bool.{false≢true}
-use Rattle.cal_alloc.specs.Growth.{bucket_size_of}
+use Rattle.std.proofs.lemmas.Bool.{false≢true, cases_lt}
 use lib.Count.{ones}
 
 -- a power of two isn't 0
@@ -42,3 +41,14 @@ next_multiple_of-same k y positive =
 pub next_multiple_of-twice : (x y : ℕ) → 0 < y → next_multiple_of (next_multiple_of x y) y ≡ next_multiple_of x y
 next_multiple_of-twice x y positive =
     let m = next_multiple_of-multiple x y positive in rw m.1 (next_multiple_of-same m.0 y positive)
+
+-- the least multiple from 1 on is the number itself
+pub next_multiple_of-one : (y : ℕ) → 0 < y → next_multiple_of 1 y ≡ y
+next_multiple_of-one y positive = from (cases_lt 1 y)
+  where
+    from : (1 < y) ⊎ (y ≤ 1) → 1 + (y - 1 % y) % y ≡ y
+    from (inl more) =
+        let one : 1 % y ≡ 1 = mod-eq_of_lt more in
+        let rest : (y - 1) % y ≡ y - 1 = mod-eq_of_lt (omega arith) in
+        rw (one, rest) (omega arith)
+    from (inr same) = let one : y ≡ 1 = omega arith in rw one refl

@@ -1,18 +1,17 @@
 -- What a pool's fields say of the pool that they stand for.
-use Rattle.std.proofs.Common.{◌≡◌, ◌≢◌, cond, ℕ, ◌+◌, ◌*◌, ◌/◌, ◌<◌, ◌≤◌, max, Bool, true, false, IsTrue, IsFalse, List, Option, Some, None, IsSome, Vec, length, count_by, replicate, get_or, position, not, refl, sym, ◌∙◌, ap, subst, arith}
+use Rattle.std.proofs.Common.{◌≡◌, ◌≢◌, cond, ℕ, ◌+◌, ◌*◌, ◌/◌, ◌<◌, max, Bool, true, false, IsTrue, Some, None, IsSome, Vec, length, count_by, get_or, position, not, refl, sym, ◌∙◌, ap, subst, arith}
 use Rattle.std.proofs.lemmas.List.{length-replicate, length-set}
 use Rattle.std.proofs.Math.Nat.{div-mul-le_self}
 use Rattle.std.specs.Int.{is_power_of_two}
 use Rattle.std.specs.List.{list_all}
 use Rattle.std.specs.Vec.{with_item}
 use Rattle.std.specs.declared.alloc.Global.{Global}
-use Rattle.std.proofs.lemmas.Bool.{false≢true}
 use Rattle.std.proofs.lemmas.List.Folds.{sum_by-replicate}
 use Rattle.std.proofs.lemmas.List.Sums.{sum_by-set}
 use Rattle.cal_alloc.specs.Growth.{bucket_size_of}
-use Rattle.cal_alloc.specs.Pool.{Pool, is_full, number_of_used, pool_fits, new_pool, with_mark, GivesFreeBucket}
+use Rattle.cal_alloc.specs.Pool.{Pool, IsSoundPool, is_full, number_of_used, pool_fits, new_pool, with_mark, GivesFreeBucket}
 use Rattle.cal_alloc.specs.PointerOffset.{pointer_offset}
-use Rattle.cal_alloc.specs.PoolFields.{marks_of, pool_of, IsSound, IsKept}
+use Rattle.cal_alloc.specs.PoolFields.{marks_of, pool_of, IsKept}
 use Rattle.cal_alloc.specs.SizeAndAlignment.{SizeAndAlignment}
 use Rattle.cal_alloc.specs.declared.pool_allocator.PoolAllocator.TheInside.{Inside}
 use Rattle.cal_alloc.proofs.Marks.{list_all-counted, counted-list_all, counted-lt-length, first_free-Some, first_free-is_free}
@@ -20,11 +19,11 @@ use Rattle.cal_alloc.proofs.PoolLemmas.{gives_bucket}
 use Rattle.cal_alloc.proofs.Padding.{positive_power, next_multiple_of-twice}
 
 -- as many buckets are used as there are: the pool is full
-pub is_full-counted : (pool : Pool) → IsSound pool → number_of_used pool ≡ pool.buckets.count → is_full pool ≡ true
+pub is_full-counted : (pool : Pool) → IsSoundPool pool → number_of_used pool ≡ pool.buckets.count → is_full pool ≡ true
 is_full-counted pool sound e = list_all-counted pool.used (e ∙ sym sound.marked)
 
 -- fewer are used than there are: a bucket is free
-pub is_full-fewer : (pool : Pool) → IsSound pool → number_of_used pool ≢ pool.buckets.count → is_full pool ≡ false
+pub is_full-fewer : (pool : Pool) → IsSoundPool pool → number_of_used pool ≢ pool.buckets.count → is_full pool ≡ false
 is_full-fewer pool sound fewer = from (is_full pool) refl
   where
     from : (full : Bool) → is_full pool ≡ full → full ≡ false
@@ -36,7 +35,7 @@ pub used-kept : (a : Inside) (marks : Vec Bool Global) → a.used ≡ Some marks
 used-kept a marks is = ap (marks_of a.number_of_buckets) is
 
 -- a new pool is sound
-pub new_pool-sound : (memory_alignment memory_size : ℕ) (layout : SizeAndAlignment) → IsTrue (pool_fits memory_size layout) → IsTrue (is_power_of_two layout.alignment) → IsSound (new_pool memory_alignment memory_size layout)
+pub new_pool-sound : (memory_alignment memory_size : ℕ) (layout : SizeAndAlignment) → IsTrue (pool_fits memory_size layout) → IsTrue (is_power_of_two layout.alignment) → IsSoundPool (new_pool memory_alignment memory_size layout)
 new_pool-sound memory_alignment memory_size layout fits power =
     let size = bucket_size_of layout.size layout.alignment in
     record {
@@ -103,7 +102,15 @@ kept_marked a marks bucket mark = record {
 pub gives_marked : (a : Inside) (marks : Vec Bool Global) (bucket place : ℕ) → IsFreeMark a marks bucket → place ≡ pointer_offset (bucket * a.bucket_size) 0 → GivesFreeBucket (pool_of a) place (pool_of (record a { used = Some (with_item marks bucket true); number_of_used = a.number_of_used + 1 }))
 gives_marked a marks bucket place mark at_start =
     let items = used-kept a marks mark.is in
-    gives_bucket (pool_of a) bucket place _ mark.kept.sound.not_empty (omega (arith, mark.within, mark.whole)) (rw items mark.free) at_start (after items)
+    gives_bucket (pool_of a) bucket place _ mark.kept.sound (omega (arith, mark.within, mark.whole)) (rw items mark.free) at_start (after items)
   where
     after : (pool_of a).used ≡ marks.items → pool_of (record a { used = Some (with_item marks bucket true); number_of_used = a.number_of_used + 1 }) ≡ with_mark (pool_of a) bucket true
     after items = rw mark.is
+
+-- the pool is full where the number of used buckets that is kept says so
+pub is_full-kept : (a : Inside) (pool : Pool) → IsKept a → pool_of a ≡ pool → a.number_of_used ≡ a.number_of_buckets → is_full pool ≡ true
+is_full-kept a pool kept view_is e = rw (← view_is) (is_full-counted (pool_of a) kept.sound (sym kept.counted ∙ e))
+
+-- and else isn't
+pub not_full-kept : (a : Inside) (pool : Pool) → IsKept a → pool_of a ≡ pool → a.number_of_used ≢ a.number_of_buckets → is_full pool ≡ false
+not_full-kept a pool kept view_is apart = rw (← view_is) (is_full-fewer (pool_of a) kept.sound (λ e. apart (kept.counted ∙ e)))

@@ -1,8 +1,8 @@
 -- A pool's buckets by their numbers and by their places.
-use Rattle.std.proofs.Common.{◌≡◌, ℕ, ◌+◌, ◌*◌, ◌/◌, ◌<◌, ◌≤◌, true, false, refl, sym, ◌∙◌, ap, arith}
-use Rattle.std.proofs.lemmas.Nat.{div-mul-add, mul-add-lt, mul-le}
-use Rattle.cal_alloc.specs.PointerOffset.{pointer_offset, offset_of}
-use Rattle.cal_alloc.specs.Pool.{Pool, start_of, bucket_at, is_used, with_mark, GivesFreeBucket}
+use Rattle.std.proofs.Common.{◌≡◌, ℕ, ◌+◌, ◌*◌, ◌/◌, ◌<◌, ◌≤◌, true, false, ◌∙◌, ap, arith}
+use Rattle.std.proofs.lemmas.Nat.{div-mul-add}
+use Rattle.cal_alloc.specs.PointerOffset.{pointer_offset}
+use Rattle.cal_alloc.specs.Pool.{Pool, IsSoundPool, start_of, bucket_at, is_used, with_mark, GivesFreeBucket}
 
 -- the bucket at the place where a bucket starts is that bucket
 pub bucket_at-start_of : (pool : Pool) (bucket : ℕ) → 0 < pool.buckets.size → bucket_at pool (pointer_offset (start_of pool bucket) 0) ≡ bucket
@@ -18,10 +18,11 @@ pub start-lt-total : (bucket count size total : ℕ) → 0 < size → bucket < c
 start-lt-total bucket count size total positive below within = grind arith
 
 -- to mark a free bucket as used is to give it out
-pub gives_bucket : (old : Pool) (bucket place : ℕ) (new : Pool) → 0 < old.buckets.size → bucket < old.buckets.count → is_used old bucket ≡ false → place ≡ pointer_offset (start_of old bucket) 0 → new ≡ with_mark old bucket true → GivesFreeBucket old place new
-gives_bucket old bucket place new positive below free at_place after =
-    let here : bucket_at old place ≡ bucket = ap (bucket_at old) at_place ∙ bucket_at-start_of old bucket positive in
+pub gives_bucket : (old : Pool) (bucket place : ℕ) (new : Pool) → IsSoundPool old → bucket < old.buckets.count → is_used old bucket ≡ false → place ≡ pointer_offset (start_of old bucket) 0 → new ≡ with_mark old bucket true → GivesFreeBucket old place new
+gives_bucket old bucket place new sound below free at_place after =
+    let here : bucket_at old place ≡ bucket = ap (bucket_at old) at_place ∙ bucket_at-start_of old bucket sound.not_empty in
     record {
+      sound = sound;
       exists = rw here below;
       was_free = rw here free;
       at_start = rw here at_place;

@@ -1,5 +1,10 @@
+pub mod Bump
+pub mod BumpLaws
+pub mod Chunks
 pub mod Growth
+pub mod Hints
 pub mod PointerOffset
 pub mod Pool
 pub mod PoolFields
+pub mod PoolLaws
 pub mod SizeAndAlignment

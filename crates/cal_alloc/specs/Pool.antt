@@ -1,8 +1,10 @@
 -- A pool: a row of equal buckets, each free or used. A bucket is named by its number, from 0, and starts at that number
 -- times the bucket size.
-use Rattle.std.specs.Prelude.{ℕ, ◌+◌, ◌*◌, ◌/◌, ◌^◌, ◌<◌, ◌≡◌, List, Bool, true, false, ◌&&◌, nat_lt, nat_le, if◌then◌else◌, Option, Some, None, slice_index_or, slice_set, replicate, count_by}
+use Rattle.std.specs.Prelude.{ℕ, ◌*◌, ◌/◌, ◌^◌, ◌<◌, ◌≤◌, ◌≡◌, IsTrue, length, List, Bool, true, false, ◌&&◌, nat_lt, nat_le, if◌then◌else◌, Option, Some, None, slice_index_or, slice_set, replicate, count_by}
 use Rattle.std.specs.List.{list_all}
+use Rattle.std.specs.Int.{is_power_of_two, next_multiple_of}
 use Rattle.cal_alloc.specs.Growth.{Buckets, bucket_size_of}
+use Rattle.cal_alloc.specs.Chunks.{Properties}
 use Rattle.cal_alloc.specs.SizeAndAlignment.{SizeAndAlignment}
 use Rattle.cal_alloc.specs.PointerOffset.{pointer_offset, offset_of}
 use Rattle.cal_alloc.specs.declared.shm_allocator.ShmAllocationError.{ShmAllocationError}
@@ -71,8 +73,18 @@ pool_refusal pool layout =
     else if is_full pool then Some OutOfMemory
     else None
 
+-- what every pool keeps: buckets of at least one byte, a multiple of their alignment, all within 2 ^ 56 bytes, and one
+-- mark for each
+pub record IsSoundPool (pool : Pool) : Type 0 where
+  pub not_empty : 0 < pool.buckets.size
+  pub power : IsTrue (is_power_of_two pool.buckets.alignment)
+  pub padded : next_multiple_of pool.buckets.size pool.buckets.alignment ≡ pool.buckets.size
+  pub within : pool.buckets.count * pool.buckets.size ≤ 2 ^ 56
+  pub marked : length pool.used ≡ pool.buckets.count
+
 -- the new pool is the old one, but a bucket that was free is used: the one that starts at the place, in segment 0
 pub record GivesFreeBucket (old : Pool) (place : ℕ) (new : Pool) : Type 0 where
+  pub sound : IsSoundPool old
   pub exists : bucket_at old place < old.buckets.count
   pub was_free : is_used old (bucket_at old place) ≡ false
   pub at_start : place ≡ pointer_offset (start_of old (bucket_at old place)) 0
@@ -86,3 +98,23 @@ pub record IsUsedBucket (pool : Pool) (place : ℕ) : Type 0 where
 -- the pool, but the bucket that starts at the place free
 abbrev pub given_back : Pool → ℕ → Pool
 given_back pool place = with_mark pool (bucket_at pool place) false
+
+-- the new pool is the old one, but the bucket that starts at the place is free
+pub record FreesBucket (old : Pool) (place : ℕ) (new : Pool) : Type 0 where
+  pub sound : IsSoundPool old
+  pub was_used : IsUsedBucket old place
+  pub after : new ≡ given_back old place
+
+-- a byte lies in a used bucket
+abbrev pub IsInUsedBucket : Pool → ℕ → Type 0
+IsInUsedBucket pool byte = is_used pool (byte / pool.buckets.size) ≡ true
+
+-- what doesn't change while a pool serves
+abbrev pub pool_properties : Pool → Properties
+pool_properties pool = record {
+  total = pool.buckets.count * pool.buckets.size;
+  max_alignment = pool.buckets.alignment;
+  memory_alignment = pool.memory_alignment;
+  chunk_size = Some pool.buckets.size;
+  is_ready = pool.is_ready;
+}

@@ -28,7 +28,8 @@ impl Model for Layout {
 impl Layout {
     /// A layout of a size in bytes and an alignment; `None` where the alignment is no power of two.
     pub fn new(size: usize, alignment: usize) -> Option<Layout>
-        ensures { SomeIff result (IsTrue (is_power_of_two alignment)) (record { size = size; alignment = alignment }) }
+        ensures { SomeIff result (IsTrue (is_power_of_two alignment))
+            (record { size = size; alignment = alignment }) }
     {
         if alignment.is_power_of_two() {
             Some(Layout { size, alignment })
@@ -56,7 +57,8 @@ impl Layout {
 /// The least multiple of the alignment that is the size or more; `None` from 2^64 on.
 pub(crate) fn checked_next_multiple_of(size: usize, alignment: usize) -> Option<usize>
     requires { 0 < alignment }
-    ensures { SomeIff result (next_multiple_of size alignment < 2 ^ 64) (next_multiple_of size alignment) }
+    ensures { let multiple = next_multiple_of size alignment in
+        SomeIff result (multiple < 2 ^ 64) multiple }
 {
     size.checked_add((alignment - size % alignment) % alignment)
 }

@@ -1,18 +1,24 @@
-//! Offsets, chunk layouts and the allocators that hand out chunks of a segment.
+//! Offsets, chunk layouts and the allocators that hand out chunks of a segment. The layer above rests on the trait
+//! `ShmAllocator`: on the exact answers of its calls, and on its laws, which hold at every allocator. The pool and the bump
+//! allocator are the two that there are.
 #![tactic(auto)]
 
 mod allocation_strategy;
+pub mod bump_allocator;
+mod growth;
 mod layout;
 mod pointer_offset;
 pub mod pool_allocator;
 mod shm_allocator;
 
 pub use allocation_strategy::AllocationStrategy;
+pub use bump_allocator::BumpAllocator;
 pub use layout::Layout;
 pub use pointer_offset::{PointerOffset, SegmentId, SegmentIdUnderlyingType};
 pub use pool_allocator::PoolAllocator;
 pub use shm_allocator::{
-    ShmAllocationError, ShmAllocator, ShmAllocatorConfig, ShmAllocatorInitError,
+    SharedMemorySetupHint, ShmAllocationError, ShmAllocator, ShmAllocatorConfig,
+    ShmAllocatorInitError, SizeOutOfRange,
 };
 
 #[cfg(test)]

@@ -1,26 +1,29 @@
 //! The pool cuts its memory into equal buckets and hands each out whole.
 
-ghost use Rattle.std.specs.Prelude.{◌≡◌, ◌<◌, ◌^◌, true, not, IsTrue, IsFalse, SomeIff, position, refl};
-ghost use Rattle.std.proofs.Common.{ap};
-ghost use Rattle.cal_alloc.specs.Growth.{bucket_size_of};
-ghost use Rattle.cal_alloc.specs.Pool.{Pool, pool_fits, buckets_within, new_pool, is_full, number_of_used, pool_refusal, GivesFreeBucket, IsUsedBucket, given_back};
+ghost use Rattle.std.specs.Prelude.{◌≡◌, ◌<◌, ◌^◌, true, not, IsTrue, IsFalse, SomeIff, position, refl, if◌then◌else◌};
+ghost use Rattle.cal_alloc.specs.Growth.{bucket_size_of, grown_buckets, raised_count};
+ghost use Rattle.cal_alloc.specs.Hints.{pool_setup_hint, pool_resize_hint};
+ghost use Rattle.cal_alloc.specs.Pool.{IsSoundPool, pool_fits, buckets_within, new_pool, is_full, number_of_used, pool_properties, pool_refusal, GivesFreeBucket, IsUsedBucket, IsInUsedBucket, given_back, FreesBucket};
+ghost use Rattle.cal_alloc.specs.PoolLaws.{new_pool-IsNew, readied_pool-IsReadied, GivesFreeBucket-IsAllocation, FreesBucket-IsDeallocation, pool_served, pool_refused_empty};
 
+use crate::allocation_strategy::AllocationStrategy;
+use crate::growth::{raised_count, raised_size};
 use crate::layout::{Layout, checked_next_multiple_of};
 use crate::pointer_offset::PointerOffset;
 use crate::shm_allocator::{
-    ShmAllocationError, ShmAllocator, ShmAllocatorConfig, ShmAllocatorInitError,
+    MAX_MEMORY_SIZE, SharedMemorySetupHint, ShmAllocationError, ShmAllocator, ShmAllocatorConfig,
+    ShmAllocatorInitError, SizeOutOfRange,
 };
 use std::alloc::Global;
 use std::marker::Model;
 
-/// The memory of an allocator has at most that many bytes.
-const MAX_MEMORY_SIZE: usize = 1 << 56;
-
+/// A pool has fewer than 2^32 buckets.
 const MAX_NUMBER_OF_BUCKETS: usize = (1 << 32) - 1;
 
 /// The size of a bucket for that layout: at least one byte, rounded up to the alignment; `None` from 2^64 on.
 fn bucket_size(layout: Layout) -> Option<usize>
-    ensures { SomeIff result (bucket_size_of layout.size layout.alignment < 2 ^ 64) (bucket_size_of layout.size layout.alignment) }
+    ensures { let size = bucket_size_of layout.size layout.alignment in
+        SomeIff result (size < 2 ^ 64) size }
 {
     checked_next_multiple_of(layout.size().max(1), layout.align())
 }
@@ -39,7 +42,8 @@ pub struct Config {
 }
 
 impl Default for Config {
-    ghost is_default = { λ config. config ≡ record { bucket_layout = record { size = 1024; alignment = 8 } } };
+    ghost is_default = { λ config.
+        config ≡ record { bucket_layout = record { size = 1024; alignment = 8 } } };
 
     fn default() -> Config {
         Config {
@@ -93,7 +97,7 @@ impl PoolAllocator {
 
     /// The number of buckets that are handed out and not given back.
     pub fn number_of_used_buckets(&self) -> u32
-        ensures value { result ≡ number_of_used self.now }
+        ensures { result ≡ number_of_used self.now }
     {
         self.number_of_used
     }
@@ -113,10 +117,39 @@ impl PoolAllocator {
         PointerOffset::new(bucket * self.bucket_size)
     }
 
+    /// The layout of the buckets that the strategy takes next; `None` where their size would be 2^64 or more.
+    fn raised_layout(&self, layout: Layout, strategy: AllocationStrategy) -> Option<Layout>
+        ensures sound { IsSoundPool self.now }
+        ensures value { let grown = grown_buckets strategy self.now.buckets (is_full self.now) layout.size layout.alignment in
+            SomeIff result (grown.size < 2 ^ 64) (record { size = grown.size; alignment = grown.alignment }) }
+    {
+        if strategy == AllocationStrategy::Static {
+            return Layout::new(self.bucket_size, self.alignment);
+        }
+        let alignment = self.alignment.max(layout.align());
+        if layout.size() <= self.bucket_size && layout.align() <= self.alignment {
+            return Layout::new(self.bucket_size, alignment);
+        }
+        let size = raised_size(strategy, self.bucket_size.max(layout.size()), alignment)?;
+        Layout::new(size, alignment)
+    }
+
+    /// The number of buckets that the strategy takes next.
+    fn raised_count(&self, strategy: AllocationStrategy) -> usize
+        ensures { let count = self.now.buckets.count in
+            result ≡ (if is_full self.now then raised_count strategy count else count) }
+    {
+        if self.number_of_used == self.number_of_buckets {
+            raised_count(strategy, self.number_of_buckets)
+        } else {
+            self.number_of_buckets as usize
+        }
+    }
+
     /// Takes back the bucket that starts at the offset.
     pub fn deallocate_bucket(&mut self, offset: PointerOffset)
         requires { IsUsedBucket self.old offset }
-        ensures { self.new ≡ given_back self.old offset }
+        ensures { FreesBucket self.old offset self.new }
     {
         let bucket = offset.offset() / self.bucket_size;
         let Some(used) = &mut self.used else {
@@ -130,45 +163,86 @@ impl PoolAllocator {
 impl ShmAllocator for PoolAllocator {
     type Configuration = Config;
 
+    ghost unique_id = { 0 };
+
+    ghost growth_raises_alignment = { true };
+
     ghost fits = { λ memory_size config. pool_fits memory_size config.bucket_layout };
 
     ghost management_size = { λ memory_size config. (buckets_within memory_size config.bucket_layout).count };
 
     ghost new_uninit = { λ alignment memory_size config. new_pool alignment memory_size config.bucket_layout };
 
-    ghost is_ready = { λ pool. pool.is_ready };
+    ghost initial_setup_hint = { pool_setup_hint };
 
-    ghost readied = { λ pool. record pool { is_ready = true } };
+    ghost properties = { pool_properties };
 
-    ghost memory_alignment = { λ pool. pool.memory_alignment };
-
-    ghost max_alignment = { λ pool. pool.buckets.alignment };
-
-    ghost unique_id = { 0 };
-
-    ghost refusal = { pool_refusal };
-
-    ghost Allocates = { λ old _ place new. GivesFreeBucket old place new };
+    ghost IsTaken = { IsInUsedBucket };
 
     ghost IsOut = { IsUsedBucket };
 
-    ghost given_back = { given_back };
+    ghost refusal = { pool_refusal };
 
-    ghost new_uninit_unready = { λ _ _ _. refl };
+    ghost resize_hint = { pool_resize_hint };
 
-    ghost readied_ready = { λ _. refl };
+    ghost readied = { λ pool. record pool { is_ready = true } };
 
-    ghost allocates_keeps_ready = { λ old layout place new gives. ap (λ (pool : Pool). pool.is_ready) gives.after };
+    ghost Allocates = { λ old _ place new. GivesFreeBucket old place new };
 
-    ghost given_back_keeps_ready = { λ _ _. refl };
+    ghost IsSkipped = { λ _ _ _. ⊥ };
+
+    ghost Deallocates = { FreesBucket };
+
+    ghost new_allocator = { λ alignment size config. new_pool-IsNew alignment size config.bucket_layout };
+
+    ghost readying = { readied_pool-IsReadied };
+
+    ghost allocation = { GivesFreeBucket-IsAllocation };
+
+    ghost deallocation = { FreesBucket-IsDeallocation };
+
+    ghost out_is_taken = { λ _ _ out. out.is_used };
+
+    ghost served = { pool_served };
+
+    ghost hint_of_one_byte = { refl };
+
+    ghost refused_empty = { pool_refused_empty };
+
+    fn resize_hint(
+        &self,
+        layout: Layout,
+        strategy: AllocationStrategy,
+    ) -> Result<SharedMemorySetupHint<Config>, SizeOutOfRange> {
+        let grown = self.raised_layout(layout, strategy).ok_or(SizeOutOfRange)?;
+        Self::initial_setup_hint(grown, self.raised_count(strategy))
+    }
+
+    fn initial_setup_hint(
+        max_chunk_layout: Layout,
+        max_number_of_chunks: usize,
+    ) -> Result<SharedMemorySetupHint<Config>, SizeOutOfRange> {
+        let alignment = max_chunk_layout.align();
+        let padded = checked_next_multiple_of(max_chunk_layout.size(), alignment);
+        let size = padded.ok_or(SizeOutOfRange)?;
+        let payload_size = size
+            .checked_mul(max_number_of_chunks)
+            .ok_or(SizeOutOfRange)?;
+        if MAX_MEMORY_SIZE < payload_size || MAX_NUMBER_OF_BUCKETS < max_number_of_chunks {
+            return Err(SizeOutOfRange);
+        }
+        let bucket_layout = Layout::new(size, alignment).unwrap();
+        Ok(SharedMemorySetupHint {
+            payload_size,
+            config: Config { bucket_layout },
+        })
+    }
 
     fn fits(memory_size: usize, config: &Config) -> bool {
-        let layout = config.bucket_layout;
-        match bucket_size(layout) {
-            Some(size) => memory_size <= MAX_MEMORY_SIZE
-                && memory_size / size <= MAX_NUMBER_OF_BUCKETS,
-            None => false,
-        }
+        let Some(size) = bucket_size(config.bucket_layout) else {
+            return false;
+        };
+        memory_size <= MAX_MEMORY_SIZE && memory_size / size <= MAX_NUMBER_OF_BUCKETS
     }
 
     fn management_size(memory_size: usize, config: &Config) -> usize {
@@ -195,15 +269,17 @@ impl ShmAllocator for PoolAllocator {
         if self.memory_alignment < self.alignment {
             return Err(ShmAllocatorInitError::MaxSupportedMemoryAlignmentInsufficient);
         }
-        let used = vec![in alloc; false; self.number_of_buckets as usize].map_err(
-            |_| ShmAllocatorInitError::AllocationFailed,
-        )?;
-        self.used = Some(used);
+        let used = vec![in alloc; false; self.number_of_buckets as usize];
+        self.used = Some(used.map_err(|_| ShmAllocatorInitError::AllocationFailed)?);
         Ok(())
     }
 
     fn unique_id() -> u8 {
         0
+    }
+
+    fn growth_raises_alignment() -> bool {
+        true
     }
 
     fn max_alignment(&self) -> usize {

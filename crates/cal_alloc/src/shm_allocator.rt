@@ -1,17 +1,26 @@
 //! An allocator hands out chunks of a segment's memory by their offsets from its start, and keeps nothing in that memory.
 //! The layer above may rely on this: what is given out and not given back doesn't overlap, a refusal has its cause and
-//! changes nothing, and giving a chunk back frees at most that chunk's own bytes.
+//! changes nothing, giving a chunk back frees at most that chunk's own bytes, and memory that is set up as `resize_hint`
+//! proposes serves the layout that was asked for.
 
-ghost use Rattle.std.specs.Prelude.{◌≡◌, ◌<◌, ℕ, Bool, Option, IsTrue, IsFalse, OnOk, OnErr, IfOk, IsErrOf, ◌↔◌};
-ghost use Rattle.std.specs.Result.{result_err};
+ghost use Rattle.std.specs.Prelude.{◌≡◌, ◌≢◌, ◌<◌, ◌≤◌, ℕ, true, Bool, Option, Some, None, IsTrue, IsFalse, OnOk, OnErr, IfOk, IsErrOf, IsSomeAnd, ◌↔◌};
+ghost use Rattle.std.specs.Result.{result_ok, result_err};
+ghost use Rattle.cal_alloc.specs.Chunks.{Properties, chunk_size, IsNew, IsReadied, IsAllocation, IsDeallocation};
+ghost use Rattle.cal_alloc.specs.PointerOffset.{offset_of};
 ghost use Rattle.cal_alloc.specs.SizeAndAlignment.{SizeAndAlignment};
+ghost use Rattle.cal_alloc.specs.declared.allocation_strategy.AllocationStrategy.{AllocationStrategy};
+ghost use Rattle.cal_alloc.specs.declared.shm_allocator.SharedMemorySetupHint.{SharedMemorySetupHint};
 ghost use Rattle.cal_alloc.specs.declared.shm_allocator.ShmAllocationError.{ShmAllocationError};
 
+use crate::allocation_strategy::AllocationStrategy;
 use crate::layout::Layout;
 use crate::pointer_offset::PointerOffset;
 use std::alloc::Global;
 use std::fmt::Debug;
 use thiserror::Error;
+
+/// The memory of an allocator has at most that many bytes, so that each offset in it is below 2^56.
+pub(crate) const MAX_MEMORY_SIZE: usize = 1 << 56;
 
 /// Why an allocator refuses to hand out a chunk. The allocator is as before.
 #[derive(Clone, Copy, PartialEq, Eq, Debug, Error)]
@@ -41,40 +50,89 @@ pub enum ShmAllocatorInitError {
     AllocationFailed,
 }
 
+/// A payload would be larger than memory can be, or have more chunks than an allocator can have.
+#[derive(Clone, Copy, PartialEq, Eq, Debug, Error)]
+#[error("SizeOutOfRange")]
+pub struct SizeOutOfRange;
+
 /// What an allocator is made from beside its memory.
 pub trait ShmAllocatorConfig: Copy + Default + Debug + Send {}
 
-/// Hands out chunks of `memory_size` bytes by their offsets, which begin at 0.
+/// A proposal for a segment of memory: its payload size in bytes, and the configuration of the allocator that is made for
+/// that much memory.
+#[derive(Drop)]
+pub struct SharedMemorySetupHint<C: ShmAllocatorConfig> {
+    pub payload_size: usize,
+    pub config: C,
+}
+
+/// Hands out chunks of memory by the offset of their first byte; offsets begin at 0.
 pub trait ShmAllocator: Debug + Drop {
     type Configuration: ShmAllocatorConfig;
 
-    // Whether an allocator can be made for that much memory, and what it then is before `init`.
+    // The kind of allocator: the memory that it can be made for, its chunks there, the new allocator, and the memory that it
+    // proposes for chunks of a layout.
+    ghost unique_id: { ℕ };
+
+    ghost growth_raises_alignment: { Bool };
+
     ghost fits: { ℕ → Self.Configuration → Bool };
 
     ghost management_size: { ℕ → Self.Configuration → ℕ };
 
     ghost new_uninit: { ℕ → ℕ → Self.Configuration → Self };
 
-    // Whether `init` has answered Ok, and the allocator after it has.
-    ghost is_ready: { Self → Bool };
+    ghost initial_setup_hint: { SizeAndAlignment → ℕ → Option (SharedMemorySetupHint Self.Configuration) };
 
-    ghost readied: { Self → Self };
+    // An allocator: what it has beside its chunks, which bytes are taken, where a chunk is out, why it refuses a layout (None
+    // where it serves it), and the memory that it proposes in its own place.
+    ghost properties: { Self → Properties };
 
-    ghost memory_alignment: { Self → ℕ };
+    ghost IsTaken: { Self → ℕ → Type 0 };
 
-    ghost max_alignment: { Self → ℕ };
+    ghost IsOut: { Self → ℕ → Type 0 };
 
-    ghost unique_id: { ℕ };
-
-    // Why it refuses a layout; the change where it serves one, which is one of those that the relation allows.
     ghost refusal: { Self → SizeAndAlignment → Option ShmAllocationError };
+
+    ghost resize_hint: { Self → SizeAndAlignment → AllocationStrategy →
+        Option (SharedMemorySetupHint Self.Configuration) };
+
+    // What calls do to it: after `init` has answered Ok; after a chunk of a layout was given out at a place, and the bytes
+    // that are skipped before that place; after the chunk at a place was given back.
+    ghost readied: { Self → Self };
 
     ghost Allocates: { Self → SizeAndAlignment → ℕ → Self → Type 0 };
 
-    // Where a chunk is out, and the allocator after it was given back.
-    ghost IsOut: { Self → ℕ → Type 0 };
+    ghost IsSkipped: { Self → ℕ → ℕ → Type 0 };
 
-    ghost given_back: { Self → ℕ → Self };
+    ghost Deallocates: { Self → ℕ → Self → Type 0 };
+
+    /// The memory to set up in place of this allocator's, so that a chunk of that layout can be handed out there.
+    /// `SizeOutOfRange` where no memory can be so large, or no allocator can have so many chunks.
+    fn resize_hint(
+        &self,
+        layout: Layout,
+        strategy: AllocationStrategy,
+    ) -> Result<SharedMemorySetupHint<Self::Configuration>, SizeOutOfRange>
+        ensures value { result_ok result ≡ resize_hint self.now layout strategy }
+        ensures fits { IfOk result (λ hint. IsTrue (fits hint.payload_size hint.config)) }
+
+        // A new allocator that is made by the hint, for memory of any alignment, serves the layout; but a static strategy
+        // proposes what is there, an empty chunk may be refused everywhere, and not each allocator can raise its alignment.
+        ensures serves { strategy ≢ AllocationStrategy.Static →
+            refusal self.now layout ≢ Some ShmAllocationError.SizeIsZero →
+            (IsFalse growth_raises_alignment → layout.alignment ≤ (properties self.now).max_alignment) →
+            IfOk result (λ hint. (alignment : ℕ) →
+            refusal (readied (new_uninit alignment hint.payload_size hint.config)) layout ≡ None) };
+
+    /// The memory to set up for that many chunks of that layout. `SizeOutOfRange` where no memory can be so large, or no
+    /// allocator can have so many chunks.
+    fn initial_setup_hint(
+        max_chunk_layout: Layout,
+        max_number_of_chunks: usize,
+    ) -> Result<SharedMemorySetupHint<Self::Configuration>, SizeOutOfRange>
+        ensures value { result_ok result ≡ initial_setup_hint max_chunk_layout max_number_of_chunks }
+        ensures fits { IfOk result (λ hint. IsTrue (fits hint.payload_size hint.config)) };
 
     /// Whether an allocator can be made for that many bytes of memory.
     fn fits(memory_size: usize, config: &Self::Configuration) -> bool
@@ -96,8 +154,9 @@ pub trait ShmAllocator: Debug + Drop {
 
     /// Takes the memory for what the allocator keeps of its chunks; to be called until it has answered Ok once.
     fn init(&mut self, alloc: Global) -> Result<(), ShmAllocatorInitError>
-        requires { IsFalse (is_ready self.old) }
-        ensures insufficient { IsErrOf result ShmAllocatorInitError.MaxSupportedMemoryAlignmentInsufficient ↔ (memory_alignment self.old < max_alignment self.old) }
+        requires { IsFalse (properties self.old).is_ready }
+        ensures insufficient { IsErrOf result ShmAllocatorInitError.MaxSupportedMemoryAlignmentInsufficient ↔
+            ((properties self.old).memory_alignment < (properties self.old).max_alignment) }
         ensures ok { OnOk result (self.new ≡ readied self.old) }
         ensures err { OnErr result (self.new ≡ self.old) };
 
@@ -105,32 +164,57 @@ pub trait ShmAllocator: Debug + Drop {
     fn unique_id() -> u8
         ensures { result ≡ unique_id };
 
+    /// Whether the memory that `resize_hint` proposes can have a greater alignment than this.
+    fn growth_raises_alignment() -> bool
+        ensures { result ≡ growth_raises_alignment };
+
     /// The greatest alignment that a chunk can have.
     fn max_alignment(&self) -> usize
-        ensures { result ≡ max_alignment self.now };
+        ensures { result ≡ (properties self.now).max_alignment };
 
     /// The offset of the first byte that can be handed out.
     fn relative_start_address(&self) -> usize
         ensures { result ≡ 0 };
 
-    /// Hands out a chunk of that layout, and gives its offset in segment 0.
+    /// Hands out a chunk of that layout, and gives the offset of its first byte, in segment 0.
     fn allocate(&mut self, layout: Layout) -> Result<PointerOffset, ShmAllocationError>
-        requires { IsTrue (is_ready self.old) }
+        requires { IsTrue (properties self.old).is_ready }
         ensures refused { result_err result ≡ refusal self.old layout }
         ensures given { IfOk result (λ place. Allocates self.old layout place self.new) }
         ensures err { OnErr result (self.new ≡ self.old) };
 
-    /// Takes back a chunk that was handed out and not taken back yet.
+    /// Takes back the chunk at that offset, which was handed out and not taken back yet.
     fn deallocate(&mut self, distance: PointerOffset, layout: Layout)
         requires { IsOut self.old distance }
-        ensures { self.new ≡ given_back self.old distance };
+        ensures { Deallocates self.old distance self.new };
 
-    // Only `init` makes an allocator ready, and no other call ends that.
-    ghost new_uninit_unready: { (alignment size : ℕ) (config : Self.Configuration) → IsFalse (is_ready (new_uninit alignment size config)) };
+    ghost new_allocator: { (alignment size : ℕ) (config : Self.Configuration) →
+        IsNew (properties (new_uninit alignment size config)) (IsTaken (new_uninit alignment size config))
+        alignment size };
 
-    ghost readied_ready: { (old : Self) → IsTrue (is_ready (readied old)) };
+    ghost readying: { (old : Self) →
+        IsReadied (properties old) (properties (readied old)) (IsTaken old) (IsTaken (readied old)) };
 
-    ghost allocates_keeps_ready: { (old : Self) (layout : SizeAndAlignment) (place : ℕ) (new : Self) → Allocates old layout place new → is_ready new ≡ is_ready old };
+    ghost allocation: { (old : Self) (layout : SizeAndAlignment) (place : ℕ) (new : Self) →
+        Allocates old layout place new →
+        IsAllocation (properties old) (properties new) (IsTaken old) (IsTaken new) (IsOut old) (IsOut new)
+        (IsSkipped old place) layout place };
 
-    ghost given_back_keeps_ready: { (old : Self) (place : ℕ) → is_ready (given_back old place) ≡ is_ready old };
+    ghost deallocation: { (old : Self) (place : ℕ) (new : Self) → Deallocates old place new →
+        IsDeallocation (properties old) (properties new) (IsTaken old) (IsTaken new) (IsOut old) (IsOut new)
+        place };
+
+    // The first byte of a chunk that is out is taken.
+    ghost out_is_taken: { (old : Self) (place : ℕ) → IsOut old place → IsTaken old (offset_of place) };
+
+    // A chunk that is given out for a layout is large enough.
+    ghost served: { (old : Self) (layout : SizeAndAlignment) →
+        refusal old layout ≡ None → layout.size ≤ chunk_size (properties old) layout };
+
+    // The memory for one chunk of one byte is one byte.
+    ghost hint_of_one_byte: { IsSomeAnd (initial_setup_hint (record { size = 1; alignment = 1 }) 1) (λ hint. hint.payload_size ≡ 1) };
+
+    // Only an empty chunk is refused for its size.
+    ghost refused_empty: { (old : Self) (layout : SizeAndAlignment) →
+        refusal old layout ≡ Some ShmAllocationError.SizeIsZero → layout.size ≡ 0 };
 }

@@ -1,8 +1,84 @@
+ghost use Rattle.std.specs.Prelude.{◌≡◌, ◌≢◌, ◌≤◌, ℕ, Some, IsTrue, IsFalse, IfSome, IfOk};
+ghost use Rattle.cal_alloc.specs.Chunks.{IsInChunk, chunk_size};
+
+use crate::{
+    AllocationStrategy, BumpAllocator, Layout, PointerOffset, PoolAllocator, SegmentId,
+    ShmAllocationError, ShmAllocator, ShmAllocatorInitError, SizeOutOfRange, bump_allocator,
+    pool_allocator,
+};
 use std::alloc::Global;
 use std::test::Fail;
 
-use crate::{Layout, PointerOffset, PoolAllocator, SegmentId, ShmAllocationError, ShmAllocator, ShmAllocatorInitError};
-use crate::pool_allocator;
+/// The places of two chunks that are handed out one after the other. The clause is proved from the laws of the trait alone.
+fn two_chunks<A: ShmAllocator>(
+    allocator: &mut A,
+    layout: Layout,
+) -> Option<(PointerOffset, PointerOffset)>
+    requires { IsTrue (A.properties allocator.old).is_ready }
+    ensures apart { IfSome result (λ places. (byte : ℕ) →
+        IsInChunk places.0 (chunk_size (A.properties allocator.old) layout) byte →
+        ¬ IsInChunk places.1 (chunk_size (A.properties allocator.old) layout) byte) }
+{
+    let first = allocator.allocate(layout).ok()?;
+    let second = allocator.allocate(layout).ok()?;
+    Some((first, second))
+}
+
+/// The place that a layout gets in memory that is set up as this allocator proposes. It gets one in any case: that the
+/// `unwrap` may be called is proved from the clauses of the trait alone.
+fn place_after_growth<A: ShmAllocator>(
+    alloc: Global,
+    allocator: &A,
+    layout: Layout,
+    strategy: AllocationStrategy,
+) -> Result<PointerOffset, Fail>
+    requires growing { strategy ≢ AllocationStrategy.Static }
+    requires not_empty { A.refusal allocator.now layout ≢ Some ShmAllocationError.SizeIsZero }
+    requires aligned { IsFalse A.growth_raises_alignment → layout.alignment ≤ (A.properties allocator.now).max_alignment }
+{
+    let hint = allocator.resize_hint(layout, strategy)?;
+    let mut next = A::new_uninit(4096, hint.payload_size, &hint.config);
+    next.init(alloc)?;
+    Ok(next.allocate(layout).unwrap())
+}
+
+/// The place of a second chunk, where the first was given back before it. That the first is out, and that the allocator
+/// still serves then, is proved from the laws of the trait alone.
+fn place_after_return<A: ShmAllocator>(allocator: &mut A, layout: Layout) -> Option<PointerOffset>
+    requires { IsTrue (A.properties allocator.old).is_ready }
+{
+    let place = allocator.allocate(layout).ok()?;
+    allocator.deallocate(place, layout);
+    allocator.allocate(layout).ok()
+}
+
+fn layout(size: usize, alignment: usize) -> Result<Layout, Fail>
+    ensures { IfOk result (λ layout. layout ≡ record { size = size; alignment = alignment }) }
+{
+    Ok(Layout::new(size, alignment).ok_or("the alignment is a power of two")?)
+}
+
+/// A pool over so many bytes, whose `init` has answered Ok.
+fn pool(alloc: Global, memory_size: usize, bucket_layout: Layout) -> Result<PoolAllocator, Fail>
+    ensures { IfOk result (λ pool. IsTrue pool.is_ready) }
+{
+    let config = pool_allocator::Config { bucket_layout };
+    if !PoolAllocator::fits(memory_size, &config) {
+        return Err(Fail::from("the pool doesn't fit"));
+    }
+    let mut pool = PoolAllocator::new_uninit(4096, memory_size, &config);
+    pool.init(alloc)?;
+    Ok(pool)
+}
+
+/// A bump allocator over 64 bytes, whose `init` has answered Ok.
+fn bump(alloc: Global) -> Result<BumpAllocator, Fail>
+    ensures { IfOk result (λ bump. IsTrue bump.is_ready) }
+{
+    let mut bump = BumpAllocator::new_uninit(8, 64, &bump_allocator::Config {});
+    bump.init(alloc)?;
+    Ok(bump)
+}
 
 #[test]
 fn offset_and_segment_are_one_number(rt: HostRuntime) {
@@ -14,43 +90,202 @@ fn offset_and_segment_are_one_number(rt: HostRuntime) {
 fn places_and_causes_are_printed(rt: HostRuntime) -> Result<(), Fail> {
     let place = PointerOffset::from_offset_and_segment_id(100, SegmentId::new(5));
     let text = format!(in rt.alloc(); "{place:?}")?;
-    assert_eq!(rt; text.as_str(), "PointerOffset { offset: 100, segment_id: SegmentId(5) }");
+    assert_eq!(rt;
+        text.as_str(),
+        "PointerOffset { offset: 100, segment_id: SegmentId(5) }"
+    );
     for (cause, name) in [
-        (ShmAllocationError::ExceedsMaxSupportedAlignment, "ShmAllocationError::ExceedsMaxSupportedAlignment"),
-        (ShmAllocationError::SizeTooLarge, "ShmAllocationError::SizeTooLarge"),
-        (ShmAllocationError::OutOfMemory, "ShmAllocationError::OutOfMemory"),
-        (ShmAllocationError::SizeIsZero, "ShmAllocationError::SizeIsZero"),
+        (
+            ShmAllocationError::ExceedsMaxSupportedAlignment,
+            "ShmAllocationError::ExceedsMaxSupportedAlignment",
+        ),
+        (
+            ShmAllocationError::SizeTooLarge,
+            "ShmAllocationError::SizeTooLarge",
+        ),
+        (
+            ShmAllocationError::OutOfMemory,
+            "ShmAllocationError::OutOfMemory",
+        ),
+        (
+            ShmAllocationError::SizeIsZero,
+            "ShmAllocationError::SizeIsZero",
+        ),
     ] {
         let text = format!(in rt.alloc(); "{cause}")?;
         assert_eq!(rt; text.as_str(), name);
     }
-    let refused = ShmAllocatorInitError::MaxSupportedMemoryAlignmentInsufficient;
-    let text = format!(in rt.alloc(); "{refused}")?;
-    assert_eq!(rt; text.as_str(), "ShmAllocatorInitError::MaxSupportedMemoryAlignmentInsufficient");
-    let failed = ShmAllocatorInitError::AllocationFailed;
-    let text = format!(in rt.alloc(); "{failed}")?;
-    assert_eq!(rt; text.as_str(), "ShmAllocatorInitError::AllocationFailed");
+    for (cause, name) in [
+        (
+            ShmAllocatorInitError::MaxSupportedMemoryAlignmentInsufficient,
+            "ShmAllocatorInitError::MaxSupportedMemoryAlignmentInsufficient",
+        ),
+        (
+            ShmAllocatorInitError::AllocationFailed,
+            "ShmAllocatorInitError::AllocationFailed",
+        ),
+    ] {
+        let text = format!(in rt.alloc(); "{cause}")?;
+        assert_eq!(rt; text.as_str(), name);
+    }
+    let text = format!(in rt.alloc(); "{SizeOutOfRange}")?;
+    assert_eq!(rt; text.as_str(), "SizeOutOfRange");
     Ok(())
 }
 
-/// The number of chunks of that layout that a new allocator gives before it refuses one.
-fn chunks_given<A: ShmAllocator>(alloc: Global, config: A::Configuration, memory_size: usize, layout: Layout) -> Result<usize, Fail> {
-    if !A::fits(memory_size, &config) {
-        return Ok(0);
+#[test]
+fn a_bump_allocator_goes_from_the_front_on(rt: HostRuntime) -> Result<(), Fail> {
+    let mut bump = bump(rt.alloc())?;
+    assert_eq!(rt; bump.allocate(layout(3, 1)?)?, PointerOffset::new(0));
+    assert_eq!(rt; bump.allocate(layout(8, 8)?)?, PointerOffset::new(8));
+    assert_eq!(rt;
+        bump.allocate(layout(49, 1)?),
+        Err(ShmAllocationError::OutOfMemory)
+    );
+    assert_eq!(rt;
+        bump.allocate(layout(0, 1)?),
+        Err(ShmAllocationError::SizeIsZero)
+    );
+    assert_eq!(rt;
+        bump.allocate(layout(1, 16)?),
+        Err(ShmAllocationError::ExceedsMaxSupportedAlignment)
+    );
+    for (size, strategy, payload_size) in [
+        (48, AllocationStrategy::BestFit, 112),
+        (48, AllocationStrategy::PowerOfTwo, 128),
+        (48, AllocationStrategy::Static, 64),
+        (47, AllocationStrategy::BestFit, 64),
+        (47, AllocationStrategy::PowerOfTwo, 64),
+        (47, AllocationStrategy::Static, 64),
+    ] {
+        let hint = bump.resize_hint(layout(size, 1)?, strategy)?;
+        assert_eq!(rt;
+            hint.payload_size,
+            payload_size,
+            "{size} under {strategy:?}"
+        );
     }
-    let mut allocator = A::new_uninit(4096, memory_size, &config);
-    allocator.init(alloc)?;
-    for count in 0..1000 {
-        if allocator.allocate(layout).is_err() {
-            return Ok(count);
-        }
-    }
-    Ok(1000)
+    Ok(())
 }
 
 #[test]
-fn a_pool_gives_each_bucket_once(rt: HostRuntime) -> Result<(), Fail> {
-    let layout = Layout::new(1024, 8).ok_or("a power of two")?;
-    assert_eq!(rt; chunks_given::<PoolAllocator>(rt.alloc(), pool_allocator::Config::default(), 4100, layout)?, 4);
+fn a_full_pool_proposes_a_larger_one(rt: HostRuntime) -> Result<(), Fail> {
+    let mut pool = pool(rt.alloc(), 4096, layout(1024, 8)?)?;
+    'buckets: for _ in 0..4 {
+        assert!(rt; pool.allocate(layout(1024, 8)?).is_ok());
+    }
+    assert_eq!(rt;
+        pool.allocate(layout(1024, 8)?),
+        Err(ShmAllocationError::OutOfMemory)
+    );
+    let asked = layout(1500, 16)?;
+    for (strategy, size, alignment, payload_size) in [
+        (AllocationStrategy::BestFit, 1504, 16, 7520),
+        (AllocationStrategy::PowerOfTwo, 2048, 16, 16384),
+        (AllocationStrategy::Static, 1024, 8, 4096),
+    ] {
+        let hint = pool.resize_hint(asked, strategy)?;
+        assert_eq!(rt; hint.payload_size, payload_size, "{strategy:?}");
+        assert_eq!(rt;
+            hint.config.bucket_layout,
+            layout(size, alignment)?,
+            "{strategy:?}"
+        );
+    }
+    Ok(())
+}
+
+#[test]
+fn init_needs_the_alignment_in_memory(rt: HostRuntime) -> Result<(), Fail> {
+    for (alignment, answer) in [
+        (
+            8192,
+            Err(ShmAllocatorInitError::MaxSupportedMemoryAlignmentInsufficient),
+        ),
+        (8, Ok(())),
+    ] {
+        let config = pool_allocator::Config {
+            bucket_layout: layout(8, alignment)?,
+        };
+        assert!(rt; PoolAllocator::fits(65536, &config));
+        let mut pool = PoolAllocator::new_uninit(4096, 65536, &config);
+        assert_eq!(rt; pool.init(rt.alloc()), answer, "alignment {alignment}");
+    }
+    Ok(())
+}
+
+#[test]
+fn hints_end_at_their_limits(rt: HostRuntime) -> Result<(), Fail> {
+    const LARGEST: usize = 1 << 56;
+    for (size, alignment, count, is_in_range) in [
+        (LARGEST, 1, 1, true),
+        (LARGEST + 1, 1, 1, false),
+        (1, 1, (1 << 32) - 1, true),
+        (1, 1, 1 << 32, false),
+        (usize::MAX - 1, 2, 0, true),
+        (usize::MAX, 2, 0, false),
+    ] {
+        let hint = PoolAllocator::initial_setup_hint(layout(size, alignment)?, count);
+        assert_eq!(rt;
+            hint.is_ok(),
+            is_in_range,
+            "{count} of {size} at {alignment}"
+        );
+    }
+    for (size, count, is_in_range) in [
+        (LARGEST, 1, true),
+        (LARGEST + 1, 1, false),
+        (1 << 32, 1 << 24, true),
+        (1 << 32, 1 << 32, false),
+        (0, 1 << 32, true),
+    ] {
+        let hint = BumpAllocator::initial_setup_hint(layout(size, 1)?, count);
+        assert_eq!(rt; hint.is_ok(), is_in_range, "{count} of {size}");
+    }
+    for (memory_size, size, alignment, fits) in [
+        (LARGEST, 1 << 25, 1, true),
+        (LARGEST + 1, 1 << 25, 1, false),
+        ((1 << 32) - 1, 0, 1, true),
+        (1 << 32, 0, 1, false),
+        (0, usize::MAX, 2, false),
+    ] {
+        let config = pool_allocator::Config {
+            bucket_layout: layout(size, alignment)?,
+        };
+        assert_eq!(rt;
+            PoolAllocator::fits(memory_size, &config),
+            fits,
+            "{memory_size} by {size}"
+        );
+    }
+    Ok(())
+}
+
+#[test]
+fn a_pool_alone_gives_a_place_again(rt: HostRuntime) -> Result<(), Fail> {
+    let mut pool = pool(rt.alloc(), 24, layout(24, 8)?)?;
+    let mut bump = bump(rt.alloc())?;
+    assert_eq!(rt;
+        place_after_return(&mut pool, layout(24, 8)?),
+        Some(PointerOffset::new(0))
+    );
+    assert_eq!(rt;
+        place_after_return(&mut bump, layout(24, 8)?),
+        Some(PointerOffset::new(24))
+    );
+    Ok(())
+}
+
+#[test]
+fn laws_hold_of_both_allocators(rt: HostRuntime) -> Result<(), Fail> {
+    let mut pool = pool(rt.alloc(), 64, layout(24, 8)?)?;
+    let mut bump = bump(rt.alloc())?;
+    assert!(rt; two_chunks(&mut pool, layout(24, 8)?).is_some());
+    assert!(rt; two_chunks(&mut bump, layout(24, 8)?).is_some());
+    let asked = layout(100, 4)?;
+    let place = place_after_growth(rt.alloc(), &pool, asked, AllocationStrategy::BestFit)?;
+    assert_eq!(rt; place, PointerOffset::new(0));
+    let place = place_after_growth(rt.alloc(), &bump, asked, AllocationStrategy::PowerOfTwo)?;
+    assert_eq!(rt; place, PointerOffset::new(0));
     Ok(())
 }

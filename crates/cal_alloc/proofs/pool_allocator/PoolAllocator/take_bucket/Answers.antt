@@ -1,5 +1,4 @@
-use Rattle.std.proofs.Common.{◌≡◌, not, position, Some, rules, arith}
-use Rattle.cal_alloc.specs.PoolFields.{pool_of}
+use Rattle.std.proofs.Common.{◌≡◌, not, position, Some, arith}
 use Rattle.cal_alloc.proofs.PoolFacts.{finds_free, first_free-IsFreeMark, kept_marked, gives_marked}
 use Rattle.cal_alloc.proofs.PoolLemmas.{start-lt-total}
 use Rattle.cal_alloc.proofs.pool_allocator.PoolAllocator.take_bucket.Goals as goal

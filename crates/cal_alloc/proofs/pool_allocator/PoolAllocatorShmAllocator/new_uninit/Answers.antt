@@ -1,4 +1,4 @@
-use Rattle.std.proofs.Common.{◌≡◌, IsTrue, rules, sym, ◌∙◌}
+use Rattle.std.proofs.Common.{◌≡◌, IsTrue, rules}
 use Rattle.std.specs.Int.{is_power_of_two}
 use Rattle.cal_alloc.specs.Growth.{bucket_size_of}
 use Rattle.cal_alloc.proofs.PoolFacts.{kept_new}

@@ -1,0 +1,44 @@
+-- What memory an allocator proposes: a payload size, and the configuration to go with it; None where that is out of range.
+use Rattle.std.specs.Prelude.{ℕ, ◌+◌, ◌*◌, ◌^◌, ◌-◌, Bool, ◌&&◌, nat_lt, nat_le, if◌then◌else◌, Option, Some, None}
+use Rattle.cal_alloc.specs.Growth.{padded_size, grown_buckets, least_power_of_two}
+use Rattle.cal_alloc.specs.SizeAndAlignment.{SizeAndAlignment}
+use Rattle.cal_alloc.specs.Pool.{Pool, is_full}
+use Rattle.cal_alloc.specs.Bump.{Bump}
+use Rattle.cal_alloc.specs.declared.allocation_strategy.AllocationStrategy.{AllocationStrategy}
+use Rattle.cal_alloc.specs.declared.allocation_strategy.AllocationStrategy.TheVariants.{BestFit, PowerOfTwo, Static}
+use Rattle.cal_alloc.specs.declared.shm_allocator.SharedMemorySetupHint.{SharedMemorySetupHint}
+use Rattle.cal_alloc.specs.declared.pool_allocator.Config as PoolConfig
+use Rattle.cal_alloc.specs.declared.bump_allocator.Config as BumpConfig
+
+-- so many buckets of this padded size: at most 2 ^ 56 bytes, fewer than 2 ^ 32 buckets of fewer than 2 ^ 64 bytes each
+abbrev pub is_in_range : ℕ → ℕ → Bool
+is_in_range size count = nat_le (size * count) (2 ^ 56) && (nat_lt count (2 ^ 32) && nat_lt size (2 ^ 64))
+
+-- memory for so many buckets of that layout, whose size is padded to the alignment
+abbrev pub pool_setup_hint : SizeAndAlignment → ℕ → Option (SharedMemorySetupHint PoolConfig.Config)
+pool_setup_hint layout count =
+    let size = padded_size layout.size layout.alignment in
+    if is_in_range size count
+    then Some (record { payload_size = size * count; config = record { bucket_layout = record { size = size; alignment = layout.alignment } } })
+    else None
+
+-- memory for the buckets that a strategy takes next
+abbrev pub pool_resize_hint : Pool → SizeAndAlignment → AllocationStrategy → Option (SharedMemorySetupHint PoolConfig.Config)
+pool_resize_hint pool layout strategy =
+    let grown = grown_buckets strategy pool.buckets (is_full pool) layout.size layout.alignment in
+    pool_setup_hint (record { size = grown.size; alignment = grown.alignment }) grown.count
+
+-- memory of this size; out of range above 2 ^ 56 bytes
+abbrev pub bump_hint : ℕ → Option (SharedMemorySetupHint BumpConfig.Config)
+bump_hint size = if nat_le size (2 ^ 56) then Some (record { payload_size = size; config = record {} }) else None
+
+-- what a strategy makes of a payload that has no room for a chunk of this size
+abbrev pub raised_payload : AllocationStrategy → ℕ → ℕ → ℕ
+raised_payload BestFit payload size = payload + size
+raised_payload PowerOfTwo payload size = least_power_of_two (payload + size)
+raised_payload Static payload size = payload
+
+-- the payload stays where more bytes are free than the chunk has
+abbrev pub bump_resize_hint : Bump → SizeAndAlignment → AllocationStrategy → Option (SharedMemorySetupHint BumpConfig.Config)
+bump_resize_hint bump layout strategy =
+    bump_hint (if nat_lt layout.size (bump.total - bump.used) then bump.total else raised_payload strategy bump.total layout.size)

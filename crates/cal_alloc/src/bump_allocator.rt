@@ -1,0 +1,223 @@
+//! The bump allocator hands its memory out from the front on, and takes nothing back.
+
+ghost use Rattle.std.specs.Prelude.{◌≡◌, ◌≢◌, ◌<◌, ◌^◌, ◌*◌, ◌+◌, true, false, nat_le, IsErrOf, OnOk, OnErr, SomeIff, ◌↔◌, refl};
+ghost use Rattle.std.specs.Result.{result_ok};
+ghost use Rattle.cal_alloc.specs.Bump.{new_bump, bump_refusal, GivesNextPlace, IsBelowUsed, IsOutBelowUsed, IsSkippedBefore, bump_properties};
+ghost use Rattle.cal_alloc.specs.BumpLaws.{new_bump-IsNew, readied_bump-IsReadied, GivesNextPlace-IsAllocation, same-IsDeallocation, bump_served, bump_refused_empty};
+ghost use Rattle.cal_alloc.specs.Hints.{bump_hint, bump_resize_hint, raised_payload};
+
+use crate::allocation_strategy::AllocationStrategy;
+use crate::growth::least_power_of_two;
+use crate::layout::{Layout, checked_next_multiple_of};
+use crate::pointer_offset::PointerOffset;
+use crate::shm_allocator::{
+    MAX_MEMORY_SIZE, SharedMemorySetupHint, ShmAllocationError, ShmAllocator, ShmAllocatorConfig,
+    ShmAllocatorInitError, SizeOutOfRange,
+};
+use std::alloc::Global;
+use std::marker::Model;
+
+/// The greatest alignment that a chunk can have.
+const MAX_ALIGNMENT: usize = 8;
+
+/// The hint for a payload of that size; `SizeOutOfRange` where no memory can be so large.
+fn hint(payload_size: usize) -> Result<SharedMemorySetupHint<Config>, SizeOutOfRange>
+    ensures { result_ok result ≡ bump_hint payload_size }
+{
+    if MAX_MEMORY_SIZE < payload_size {
+        return Err(SizeOutOfRange);
+    }
+    Ok(SharedMemorySetupHint {
+        payload_size,
+        config: Config {},
+    })
+}
+
+/// The payload size that a strategy takes next; `None` from 2^64 on.
+fn raised_payload(strategy: AllocationStrategy, payload_size: usize, size: usize) -> Option<usize>
+    ensures { let raised = raised_payload strategy payload_size size in
+        SomeIff result (raised < 2 ^ 64) raised }
+{
+    match strategy {
+        AllocationStrategy::BestFit => payload_size.checked_add(size),
+        AllocationStrategy::PowerOfTwo => least_power_of_two(payload_size.checked_add(size)?),
+        AllocationStrategy::Static => Some(payload_size),
+    }
+}
+
+/// A bump allocator has nothing to choose.
+#[derive(Clone, Copy, Default, Debug)]
+pub struct Config {}
+
+impl ShmAllocatorConfig for Config {}
+
+/// Hands out chunks one behind the other, each rounded up to its alignment. What is given back isn't used again.
+#[derive(Debug, Drop)]
+pub struct BumpAllocator {
+    total: usize,
+    used: usize,
+    memory_alignment: usize,
+    is_ready: bool,
+}
+
+impl Model for BumpAllocator {
+    ghost use Rattle.std.specs.Prelude.{◌≤◌, ◌^◌};
+    ghost use Rattle.cal_alloc.specs.Bump.{Bump};
+
+    ghost Value = { Bump };
+
+    ghost view = { λ a.
+        record { total = a.total; used = a.used; memory_alignment = a.memory_alignment; is_ready = a.is_ready } };
+
+    ghost invariant = { λ a. (a.used ≤ a.total) × (a.total ≤ 2 ^ 56) };
+}
+
+impl BumpAllocator {
+    /// The bytes of its memory, handed out or not.
+    pub fn total_space(&self) -> usize
+        ensures { result ≡ self.now.total }
+    {
+        self.total
+    }
+}
+
+impl ShmAllocator for BumpAllocator {
+    type Configuration = Config;
+
+    ghost unique_id = { 1 };
+
+    ghost growth_raises_alignment = { false };
+
+    ghost fits = { λ memory_size _. nat_le memory_size (2 ^ 56) };
+
+    ghost management_size = { λ _ _. 0 };
+
+    ghost new_uninit = { λ alignment memory_size _. new_bump alignment memory_size };
+
+    ghost initial_setup_hint = { λ layout count. bump_hint (layout.size * count) };
+
+    ghost properties = { bump_properties };
+
+    ghost IsTaken = { IsBelowUsed };
+
+    ghost IsOut = { IsOutBelowUsed };
+
+    ghost refusal = { bump_refusal };
+
+    ghost resize_hint = { bump_resize_hint };
+
+    ghost readied = { λ bump. record bump { is_ready = true } };
+
+    ghost Allocates = { GivesNextPlace };
+
+    ghost IsSkipped = { IsSkippedBefore };
+
+    ghost Deallocates = { λ old _ new. new ≡ old };
+
+    ghost new_allocator = { λ alignment size _. new_bump-IsNew alignment size };
+
+    ghost readying = { readied_bump-IsReadied };
+
+    ghost allocation = { GivesNextPlace-IsAllocation };
+
+    ghost deallocation = { same-IsDeallocation };
+
+    ghost out_is_taken = { λ _ _ out. out };
+
+    ghost served = { bump_served };
+
+    ghost hint_of_one_byte = { refl };
+
+    ghost refused_empty = { bump_refused_empty };
+
+    fn resize_hint(
+        &self,
+        layout: Layout,
+        strategy: AllocationStrategy,
+    ) -> Result<SharedMemorySetupHint<Config>, SizeOutOfRange> {
+        if layout.size() < self.total - self.used {
+            return hint(self.total);
+        }
+        hint(raised_payload(strategy, self.total, layout.size()).ok_or(SizeOutOfRange)?)
+    }
+
+    fn initial_setup_hint(
+        max_chunk_layout: Layout,
+        max_number_of_chunks: usize,
+    ) -> Result<SharedMemorySetupHint<Config>, SizeOutOfRange> {
+        hint(
+            max_chunk_layout
+                .size()
+                .checked_mul(max_number_of_chunks)
+                .ok_or(SizeOutOfRange)?,
+        )
+    }
+
+    fn fits(memory_size: usize, _config: &Config) -> bool {
+        memory_size <= MAX_MEMORY_SIZE
+    }
+
+    fn management_size(_memory_size: usize, _config: &Config) -> usize {
+        0
+    }
+
+    fn new_uninit(
+        max_supported_alignment_by_memory: usize,
+        memory_size: usize,
+        _config: &Config,
+    ) -> Self {
+        BumpAllocator {
+            total: memory_size,
+            used: 0,
+            memory_alignment: max_supported_alignment_by_memory,
+            is_ready: false,
+        }
+    }
+
+    fn init(&mut self, _alloc: Global) -> Result<(), ShmAllocatorInitError>
+        ensures insufficient { IsErrOf result ShmAllocatorInitError.MaxSupportedMemoryAlignmentInsufficient ↔ (self.old.memory_alignment < 8) }
+        ensures never_failed { result ≢ Err ShmAllocatorInitError.AllocationFailed }
+        ensures ok { OnOk result (self.new ≡ record self.old { is_ready = true }) }
+        ensures err { OnErr result (self.new ≡ self.old) }
+    {
+        if self.memory_alignment < MAX_ALIGNMENT {
+            return Err(ShmAllocatorInitError::MaxSupportedMemoryAlignmentInsufficient);
+        }
+        self.is_ready = true;
+        Ok(())
+    }
+
+    fn unique_id() -> u8 {
+        1
+    }
+
+    fn growth_raises_alignment() -> bool {
+        false
+    }
+
+    fn max_alignment(&self) -> usize {
+        MAX_ALIGNMENT
+    }
+
+    fn relative_start_address(&self) -> usize {
+        0
+    }
+
+    fn allocate(&mut self, layout: Layout) -> Result<PointerOffset, ShmAllocationError> {
+        let alignment = layout.align();
+        if MAX_ALIGNMENT < alignment {
+            return Err(ShmAllocationError::ExceedsMaxSupportedAlignment);
+        }
+        if layout.size() == 0 {
+            return Err(ShmAllocationError::SizeIsZero);
+        }
+        let place = checked_next_multiple_of(self.used, alignment).unwrap();
+        if self.total.saturating_sub(place) < layout.size() {
+            return Err(ShmAllocationError::OutOfMemory);
+        }
+        self.used = place + layout.size();
+        Ok(PointerOffset::new(place))
+    }
+
+    fn deallocate(&mut self, _distance: PointerOffset, _layout: Layout) {}
+}
