@@ -72,6 +72,7 @@ discarded_changes p w i chunk pool h stands loaned mark =
       owners = refl;
       ready = record {
         ready = mark.ready ∙ h.ready.ready;
+        first = mark.buckets ∙ h.ready.first;
         size = (let s = h.ready.size in omega arith);
         payload = rw (size, count) h.ready.payload;
         count = (let s = h.ready.count in omega arith);

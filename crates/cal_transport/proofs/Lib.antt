@@ -10,8 +10,10 @@ pub mod Reading
 pub mod Receiving
 pub mod Reclaiming
 pub mod Releasing
+pub mod Running
 pub mod Sending
 pub mod Steps
+pub mod Transits
 pub mod Update
 pub mod Writes
 pub mod Writing

@@ -239,6 +239,7 @@ shows_loaned p w name bucket room g =
       settings = h.settings;
       ready = record {
         ready = h.ready.ready;
+        first = h.ready.first;
         size = h.ready.size;
         payload = h.ready.payload;
         count = h.ready.count;

@@ -119,6 +119,7 @@ shows_first s room built can =
       settings = built_clamped s built can;
       ready = record {
         ready = refl;
+        first = refl;
         size = padded_above s.size s.alignment can.size;
         payload = can.payload;
         count = can.few;

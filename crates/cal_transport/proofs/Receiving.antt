@@ -150,6 +150,7 @@ received_changes p w rest value h f =
       owners = refl;
       ready = record {
         ready = h.ready.ready;
+        first = h.ready.first;
         size = h.ready.size;
         payload = h.ready.payload;
         count = h.ready.count;

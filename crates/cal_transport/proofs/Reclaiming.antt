@@ -93,6 +93,7 @@ reclaimed_changes p w rest value pool h f mark =
       owners = refl;
       ready = record {
         ready = mark.ready ∙ h.ready.ready;
+        first = mark.buckets ∙ h.ready.first;
         size = (let s = h.ready.size in omega arith);
         payload = rw (size, count) h.ready.payload;
         count = (let s = h.ready.count in omega arith);

@@ -113,6 +113,7 @@ released_changes p w i chunk h stands may =
       owners = refl;
       ready = record {
         ready = h.ready.ready;
+        first = h.ready.first;
         size = h.ready.size;
         payload = h.ready.payload;
         count = h.ready.count;

@@ -151,6 +151,7 @@ sent_changes p w i chunk channel h stands may =
       owners = refl;
       ready = record {
         ready = h.ready.ready;
+        first = h.ready.first;
         size = h.ready.size;
         payload = h.ready.payload;
         count = h.ready.count;

@@ -96,6 +96,7 @@ written_changes p w i chunk at bytes h stands loaned within =
       owners = refl;
       ready = record {
         ready = h.ready.ready;
+        first = h.ready.first;
         size = h.ready.size;
         payload = h.ready.payload;
         count = h.ready.count;

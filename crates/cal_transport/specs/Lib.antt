@@ -12,3 +12,4 @@ pub mod Rules
 pub mod Transit
 pub mod Run
 pub mod Examples
+pub mod Serve

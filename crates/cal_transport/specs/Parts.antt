@@ -132,6 +132,7 @@ pub record AreBuilt (s : Settings) : Type 0 where
 -- the pool serves, and its memory and tables are as large as it is
 pub record IsReady (p : Parts) : Type 0 where
   pub ready : p.pool.is_ready ≡ true
+  pub first : p.pool.buckets ≡ first_buckets p.settings
   pub size : 1 ≤ p.pool.buckets.size
   pub payload : p.pool.buckets.size * p.pool.buckets.count ≤ 2 ^ 56
   pub count : p.pool.buckets.count < 2 ^ 32

@@ -1,6 +1,6 @@
 //! Bytes that a command or a reply owns.
 
-ghost use Rattle.std.specs.Prelude.{◌≡◌, IfOk, nat_eq};
+ghost use Rattle.std.specs.Prelude.{◌≡◌, [], IfOk, nat_eq};
 ghost use Rattle.std.specs.Cmp.{partial_equiv_from_equiv};
 ghost use Rattle.std.specs.Cmp.Lexicographic.{pointwise, nat_list_eq_equiv};
 
@@ -29,6 +29,15 @@ impl Bytes {
         Ok(Bytes {
             items: Vec::from_slice(alloc, value)?,
         })
+    }
+
+    /// No byte.
+    pub(crate) fn empty(alloc: Global) -> Bytes
+        ensures empty { result ≡ [] }
+    {
+        Bytes {
+            items: Vec::new(alloc),
+        }
     }
 
     pub fn as_slice(&self) -> &[u8]

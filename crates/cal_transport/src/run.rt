@@ -1,13 +1,20 @@
 //! A whole run: a transport is made, each command is served in turn, and what is in transit then is told.
 
-ghost use Rattle.std.specs.Prelude.{◌≡◌, OnOk, IfOk, IfErr, None, Some, Err, IsTrue};
+ghost use Rattle.std.specs.Prelude.{◌≡◌, ◌+◌, ◌<◌, ◌≤◌, OnOk, IfOk, IfErr, None, Some, Err, IsTrue};
 ghost use Rattle.cal_transport.specs.Settings.{create_cause};
 ghost use Rattle.cal_transport.specs.Built.{is_built};
+ghost use Rattle.cal_transport.specs.Entry.{AreBelow};
+ghost use Rattle.cal_transport.specs.Rules.{DoesAnywhere};
+ghost use Rattle.cal_transport.specs.Serve.{NotServed};
+ghost use Rattle.cal_transport.specs.Parts.{Does};
 ghost use Rattle.cal_transport.specs.Run.{IsRun, HasError};
 
+use crate::bytes::Bytes;
 use crate::command::Command;
 use crate::replies::Replies;
+use crate::reply::Reply;
 use crate::settings::{CreateCause, Settings};
+use crate::transport::Transport;
 use cal_alloc::AllocationStrategy;
 use std::alloc::Global;
 
@@ -20,6 +27,15 @@ pub enum RunError {
     NoMemory(Replies),
     /// The settings, or the next command, aren't served yet. The replies answer the commands before.
     NotBuilt(Replies),
+}
+
+/// Why a command has no reply. The transport is as before.
+#[derive(Clone, Copy)]
+enum ServeError {
+    /// Memory ran out, which only the bytes of a read can meet.
+    NoMemory,
+    /// The command isn't served yet.
+    NotBuilt,
 }
 
 /// Runs the commands over a transport with these settings. There is one reply for each command, and then one for
@@ -38,11 +54,25 @@ pub fn run_transport(
     if let Some(cause) = settings.create_cause() {
         return Err(RunError::Create(cause));
     }
-    let none = Replies::empty(alloc);
     if !is_built(settings) {
-        return Err(RunError::NotBuilt(none));
+        return Err(RunError::NotBuilt(Replies::empty(alloc)));
     }
-    Err(RunError::NoMemory(none))
+    let Ok(mut transport) = Transport::open(alloc, settings, commands.len()) else {
+        return Err(RunError::NoMemory(Replies::empty(alloc)));
+    };
+    let room = commands.len() + transport.most_in_transit();
+    let Ok(mut replies) = Replies::new(alloc, room) else {
+        return Err(RunError::NoMemory(Replies::empty(alloc)));
+    };
+    for (index, command) in commands.iter().enumerate() {
+        match transport.serve(alloc, index + 1, command) {
+            Ok(reply) => replies.push(reply),
+            Err(ServeError::NoMemory) => return Err(RunError::NoMemory(replies)),
+            Err(ServeError::NotBuilt) => return Err(RunError::NotBuilt(replies)),
+        }
+    }
+    transport.transit(&mut replies);
+    Ok(replies)
 }
 
 /// Whether transports with these settings are served yet.
@@ -50,4 +80,82 @@ fn is_built(settings: &Settings) -> bool
     ensures value { result ≡ is_built settings.now }
 {
     settings.strategy == AllocationStrategy::Static && !settings.overflow && settings.channels <= 1
+}
+
+impl Transport {
+    /// Answers one command. A chunk that it loans is named by the command's place, which is greater than all names.
+    fn serve(
+        &mut self,
+        alloc: Global,
+        place: usize,
+        command: &Command,
+    ) -> Result<Reply, ServeError>
+        requires below { AreBelow self.old.entries place }
+        requires room { 0 < self.old.room }
+        ensures served { IfOk result (λ reply. Does self.old place command.now reply self.new) }
+        ensures error { IfErr result (NotServed self.old command.now) }
+        ensures room { self.old.room ≤ self.new.room + 1 }
+    {
+        match command {
+            Command::Loan { size, alignment } => Ok(match self.loan(place, *size, *alignment) {
+                Ok(slot) => Reply::Loaned(slot),
+                Err(refusal) => Reply::Refused(refusal),
+            }),
+            Command::Write { chunk, at, bytes } => {
+                Ok(match self.write(*chunk, *at, bytes.as_slice()) {
+                    Ok(()) => Reply::Written,
+                    Err(refusal) => Reply::Refused(refusal),
+                })
+            }
+            Command::Send { channel, chunk } => Ok(match self.send(*channel, *chunk) {
+                Ok(back) => Reply::Sent(back),
+                Err(refusal) => Reply::Refused(refusal),
+            }),
+            Command::Receive { channel } => Ok(match self.receive(*channel) {
+                Ok(taken) => Reply::Received(taken),
+                Err(refusal) => Reply::Refused(refusal),
+            }),
+            Command::Read {
+                channel,
+                chunk,
+                at,
+                length,
+            } => self.show(alloc, *channel, *chunk, *at, *length),
+            Command::Release { channel, chunk } => Ok(match self.release(*channel, *chunk) {
+                Ok(()) => Reply::Released,
+                Err(refusal) => Reply::Refused(refusal),
+            }),
+            Command::Reclaim { channel } => Ok(match self.reclaim(*channel) {
+                Ok(back) => Reply::Reclaimed(back),
+                Err(refusal) => Reply::Refused(refusal),
+            }),
+            Command::Discard { chunk } => Ok(match self.discard(*chunk) {
+                Ok(()) => Reply::Discarded,
+                Err(refusal) => Reply::Refused(refusal),
+            }),
+            Command::Count => Err(ServeError::NotBuilt),
+        }
+    }
+
+    /// Answers a read with a copy of the chunk's bytes.
+    fn show(
+        &self,
+        alloc: Global,
+        channel: usize,
+        chunk: usize,
+        at: usize,
+        length: usize,
+    ) -> Result<Reply, ServeError>
+        ensures shown { IfOk result (λ reply. DoesAnywhere self.now (Command.Read channel chunk at length) reply self.now) }
+        ensures error { IfErr result (NotServed self.now (Command.Read channel chunk at length)) }
+    {
+        match self.read(channel, chunk, at, length) {
+            Err(refusal) => Ok(Reply::Refused(refusal)),
+            Ok([]) => Ok(Reply::Shown(Bytes::empty(alloc))),
+            Ok(bytes) => match Bytes::new(alloc, bytes) {
+                Ok(bytes) => Ok(Reply::Shown(bytes)),
+                Err(_) => Err(ServeError::NoMemory),
+            },
+        }
+    }
 }

@@ -13,6 +13,7 @@ impl Transport {
     /// Borrows the oldest queued chunk, if there is one.
     pub(crate) fn receive(&mut self, channel: usize) -> Result<Option<Slot>, Refusal>
         ensures step { ReceiveDoes self.old channel result self.new }
+        ensures room { self.new.room ≡ self.old.room }
     {
         if let Some(refusal) = self.receive_refusal(channel) {
             return Err(refusal);
@@ -87,6 +88,7 @@ impl Transport {
     /// Gives a borrowed chunk back.
     pub(crate) fn release(&mut self, channel: usize, chunk: usize) -> Result<(), Refusal>
         ensures step { ReleaseDoes self.old channel chunk result self.new }
+        ensures room { self.new.room ≡ self.old.room }
     {
         if channel >= self.settings.channels {
             return Err(Refusal::OutsideConnection);

@@ -55,6 +55,7 @@ impl Transport {
     /// Writes bytes into a loaned chunk that wasn't sent yet.
     pub(crate) fn write(&mut self, chunk: usize, at: usize, bytes: &[u8]) -> Result<(), Refusal>
         ensures step { WriteDoes self.old chunk at bytes.now result self.new }
+        ensures room { self.new.room ≡ self.old.room }
     {
         let Some(found) = find_entry(&self.entries, chunk) else {
             return Err(Refusal::NotLoaned);
@@ -85,6 +86,7 @@ impl Transport {
     /// Queues a loaned chunk on a channel. Nothing overflows.
     pub(crate) fn send(&mut self, channel: usize, chunk: usize) -> Result<Option<Slot>, Refusal>
         ensures step { SendDoes self.old channel chunk result self.new }
+        ensures room { self.new.room ≡ self.old.room }
     {
         let Some(found) = find_entry(&self.entries, chunk) else {
             return Err(Refusal::NotLoaned);
@@ -122,6 +124,7 @@ impl Transport {
     /// Takes back the oldest chunk that the receiver gave back, if there is one.
     pub(crate) fn reclaim(&mut self, channel: usize) -> Result<Option<Slot>, Refusal>
         ensures step { ReclaimDoes self.old channel result self.new }
+        ensures room { self.new.room ≡ self.old.room }
     {
         if channel >= self.settings.channels {
             return Err(Refusal::OutsideConnection);
@@ -144,6 +147,7 @@ impl Transport {
     /// Ends the loan of a chunk.
     pub(crate) fn discard(&mut self, chunk: usize) -> Result<(), Refusal>
         ensures step { DiscardDoes self.old chunk result self.new }
+        ensures room { self.new.room ≡ self.old.room }
     {
         let Some(found) = find_entry(&self.entries, chunk) else {
             return Err(Refusal::NotLoaned);

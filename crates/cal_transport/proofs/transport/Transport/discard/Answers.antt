@@ -15,11 +15,13 @@ use Rattle.cal_queue.specs.UsedChunks.{contains}
 use Rattle.cal_transport.proofs.Discarding.{discarded_parts, discard_unnamed, discard_ended, discarded, discard_used}
 use Rattle.cal_transport.proofs.transport.Transport.discard.Goals as goal
 
-pub returns-in_default : goal.returns-in_default
-returns-in_default c = record { step = discard_unnamed c.args.self.now c.args.chunk (subst (λ es. IsUnnamed es c.args.chunk) (c.deref.ensures.value ∙ ap (λ p. p.entries) c.self.view_is) c.in_default.ensures.found) }
+pub returns-in_default-clause-step : goal.returns-in_default-clause-step
+returns-in_default-clause-step c =
+  discard_unnamed c.args.self.now c.args.chunk (subst (λ es. IsUnnamed es c.args.chunk) (c.deref.ensures.value ∙ ap (λ p. p.entries) c.self.view_is) c.in_default.ensures.found)
 
-pub returns-then-not-found : goal.returns-then-not-found
-returns-then-not-found c = record { step = discard_ended c.args.self.now c.args.chunk c.in-Some.found (subst (λ es. IsFound es c.args.chunk c.in-Some.found) (c.deref.ensures.value ∙ ap (λ p. p.entries) c.self.view_is) c.in-Some.ensures.found) (not_true c.in-Some.found.entry.loaned c.if-not-found.true) }
+pub returns-then-not-found-clause-step : goal.returns-then-not-found-clause-step
+returns-then-not-found-clause-step c =
+  discard_ended c.args.self.now c.args.chunk c.in-Some.found (subst (λ es. IsFound es c.args.chunk c.in-Some.found) (c.deref.ensures.value ∙ ap (λ p. p.entries) c.self.view_is) c.in-Some.ensures.found) (not_true c.in-Some.found.entry.loaned c.if-not-found.true)
 
 pub overflow_mul-found : goal.overflow_mul-found
 overflow_mul-found c =
@@ -42,5 +44,6 @@ index_mut-requires c =
 pub invariant_of-self : goal.invariant_of-self
 invariant_of-self c = sound_after (parts_of c.self.inside) _ 0 (command.Discard c.args.chunk) Discarded c.self.invariant.0 c.self.invariant.1 (discarded (parts_of c.self.inside) c.args.chunk c.new-pointer.result c.in-Some.found c.give_back_unless.new.pool (subst (λ es. IsFound es c.args.chunk c.in-Some.found) c.deref.ensures.value c.in-Some.ensures.found) (not_false c.in-Some.found.entry.loaned c.if-not-found.false) (c.new-pointer.ensures ∙ ap (λ n. pointer_offset (c.in-Some.found.entry.bucket * n) 0) c.bucket_size.ensures.value) (c.give_back_unless.ensures.freed ∙ ap (λ b. cond b c.self.inside.pool (given_back c.self.inside.pool c.new-pointer.result)) (c.is_in_transit-in_transit.ensures.used ∙ ap (λ p. contains p.used c.in-Some.found.entry.bucket) (sym c.self.view_is))) 0)
 
-pub returns : goal.returns
-returns c = record { step = λ place. subst (λ p. Does p place (command.Discard c.args.chunk) Discarded (discarded_parts (parts_of c.self.inside) c.in-Some.found.index c.in-Some.found.entry c.give_back_unless.new.pool)) c.self.view_is (discarded (parts_of c.self.inside) c.args.chunk c.new-pointer.result c.in-Some.found c.give_back_unless.new.pool (subst (λ es. IsFound es c.args.chunk c.in-Some.found) c.deref.ensures.value c.in-Some.ensures.found) (not_false c.in-Some.found.entry.loaned c.if-not-found.false) (c.new-pointer.ensures ∙ ap (λ n. pointer_offset (c.in-Some.found.entry.bucket * n) 0) c.bucket_size.ensures.value) (c.give_back_unless.ensures.freed ∙ ap (λ b. cond b c.self.inside.pool (given_back c.self.inside.pool c.new-pointer.result)) (c.is_in_transit-in_transit.ensures.used ∙ ap (λ p. contains p.used c.in-Some.found.entry.bucket) (sym c.self.view_is))) place) }
+pub returns-clause-step : goal.returns-clause-step
+returns-clause-step c =
+  λ place. subst (λ p. Does p place (command.Discard c.args.chunk) Discarded (discarded_parts (parts_of c.self.inside) c.in-Some.found.index c.in-Some.found.entry c.give_back_unless.new.pool)) c.self.view_is (discarded (parts_of c.self.inside) c.args.chunk c.new-pointer.result c.in-Some.found c.give_back_unless.new.pool (subst (λ es. IsFound es c.args.chunk c.in-Some.found) c.deref.ensures.value c.in-Some.ensures.found) (not_false c.in-Some.found.entry.loaned c.if-not-found.false) (c.new-pointer.ensures ∙ ap (λ n. pointer_offset (c.in-Some.found.entry.bucket * n) 0) c.bucket_size.ensures.value) (c.give_back_unless.ensures.freed ∙ ap (λ b. cond b c.self.inside.pool (given_back c.self.inside.pool c.new-pointer.result)) (c.is_in_transit-in_transit.ensures.used ∙ ap (λ p. contains p.used c.in-Some.found.entry.bucket) (sym c.self.view_is))) place)

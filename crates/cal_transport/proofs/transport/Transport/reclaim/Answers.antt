@@ -30,5 +30,6 @@ give_back_unless-requires c = record { used = subst (IsUsedBucket c.self.inside.
 pub invariant_of-self-2 : goal.invariant_of-self-2
 invariant_of-self-2 c = sound_after (parts_of c.self.inside) _ 0 (command.Reclaim c.args.channel) (Reclaimed (Some (record { chunk = c.entry_at-found.result.entry.name; segment = 0; place = c.offset-2.result }))) c.self.invariant.0 c.self.invariant.1 (reclaimed_by (parts_of c.self.inside) c.args.channel c.in-Some.value c.entry_at-found.result.index (c.offset.result / c.bucket_size.result) c.offset-2.result c.entry_at-found.result.entry c.pop.new.self c.remove.new.self c.give_back_unless.new.pool (let t : c.args.channel < c.self.inside.settings.channels = omega arith in t) c.in-Some.ensures.oldest (ap (λ n. c.offset.result / n) c.bucket_size.ensures.value ∙ ap (λ n. n / c.self.inside.pool.buckets.size) (c.offset.ensures ∙ ap offset_of c.from_value-pointer.ensures)) (ap (λ o. slice_get o (c.offset.result / c.bucket_size.result)) (sym c.deref-2.ensures.value) ∙ c.entry_at-found.ensures.owner) (ap (λ e. slice_get e c.entry_at-found.result.index) (sym c.deref.ensures.value) ∙ c.entry_at-found.ensures.entry) (c.offset-2.ensures ∙ ap offset_of c.from_value-pointer.ensures) c.in-Some.ensures.left c.remove.ensures.now_absent (c.give_back_unless.ensures.freed ∙ ap (λ v. cond c.entry_at-found.result.entry.loaned c.self.inside.pool (given_back c.self.inside.pool v)) c.from_value-pointer.ensures) 0)
 
-pub returns : goal.returns
-returns c = record { step = λ place. subst (λ p. Does p place (command.Reclaim c.args.channel) (Reclaimed (Some (record { chunk = c.entry_at-found.result.entry.name; segment = 0; place = c.offset-2.result }))) (record (parts_of c.self.inside) { completions = c.pop.new.self; used = c.remove.new.self; pool = c.give_back_unless.new.pool })) c.self.view_is (reclaimed_by (parts_of c.self.inside) c.args.channel c.in-Some.value c.entry_at-found.result.index (c.offset.result / c.bucket_size.result) c.offset-2.result c.entry_at-found.result.entry c.pop.new.self c.remove.new.self c.give_back_unless.new.pool (let t : c.args.channel < c.self.inside.settings.channels = omega arith in t) c.in-Some.ensures.oldest (ap (λ n. c.offset.result / n) c.bucket_size.ensures.value ∙ ap (λ n. n / c.self.inside.pool.buckets.size) (c.offset.ensures ∙ ap offset_of c.from_value-pointer.ensures)) (ap (λ o. slice_get o (c.offset.result / c.bucket_size.result)) (sym c.deref-2.ensures.value) ∙ c.entry_at-found.ensures.owner) (ap (λ e. slice_get e c.entry_at-found.result.index) (sym c.deref.ensures.value) ∙ c.entry_at-found.ensures.entry) (c.offset-2.ensures ∙ ap offset_of c.from_value-pointer.ensures) c.in-Some.ensures.left c.remove.ensures.now_absent (c.give_back_unless.ensures.freed ∙ ap (λ v. cond c.entry_at-found.result.entry.loaned c.self.inside.pool (given_back c.self.inside.pool v)) c.from_value-pointer.ensures) place) }
+pub returns-clause-step : goal.returns-clause-step
+returns-clause-step c =
+  λ place. subst (λ p. Does p place (command.Reclaim c.args.channel) (Reclaimed (Some (record { chunk = c.entry_at-found.result.entry.name; segment = 0; place = c.offset-2.result }))) (record (parts_of c.self.inside) { completions = c.pop.new.self; used = c.remove.new.self; pool = c.give_back_unless.new.pool })) c.self.view_is (reclaimed_by (parts_of c.self.inside) c.args.channel c.in-Some.value c.entry_at-found.result.index (c.offset.result / c.bucket_size.result) c.offset-2.result c.entry_at-found.result.entry c.pop.new.self c.remove.new.self c.give_back_unless.new.pool (let t : c.args.channel < c.self.inside.settings.channels = omega arith in t) c.in-Some.ensures.oldest (ap (λ n. c.offset.result / n) c.bucket_size.ensures.value ∙ ap (λ n. n / c.self.inside.pool.buckets.size) (c.offset.ensures ∙ ap offset_of c.from_value-pointer.ensures)) (ap (λ o. slice_get o (c.offset.result / c.bucket_size.result)) (sym c.deref-2.ensures.value) ∙ c.entry_at-found.ensures.owner) (ap (λ e. slice_get e c.entry_at-found.result.index) (sym c.deref.ensures.value) ∙ c.entry_at-found.ensures.entry) (c.offset-2.ensures ∙ ap offset_of c.from_value-pointer.ensures) c.in-Some.ensures.left c.remove.ensures.now_absent (c.give_back_unless.ensures.freed ∙ ap (λ v. cond c.entry_at-found.result.entry.loaned c.self.inside.pool (given_back c.self.inside.pool v)) c.from_value-pointer.ensures) place)

@@ -11,18 +11,16 @@ use Rattle.cal_transport.proofs.Steps.{sound_after}
 use Rattle.cal_transport.proofs.Writing.{write_unnamed, write_refused, written_to, write_place}
 use Rattle.cal_transport.proofs.transport.Transport.write.Goals as goal
 
-pub returns-in_default : goal.returns-in_default
-returns-in_default c = record {
-  step = write_unnamed c.args.self.now c.args.chunk c.args.at c.args.bytes.now
-    (subst (λ es. IsUnnamed es c.args.chunk) (c.deref.ensures.value ∙ ap (λ p. p.entries) c.self.view_is) c.in_default.ensures.found);
-}
+pub returns-in_default-clause-step : goal.returns-in_default-clause-step
+returns-in_default-clause-step c =
+  write_unnamed c.args.self.now c.args.chunk c.args.at c.args.bytes.now
+    (subst (λ es. IsUnnamed es c.args.chunk) (c.deref.ensures.value ∙ ap (λ p. p.entries) c.self.view_is) c.in_default.ensures.found)
 
-pub returns-in-Some-write_refusal : goal.returns-in-Some-write_refusal
-returns-in-Some-write_refusal c = record {
-  step = write_refused c.args.self.now c.args.chunk c.args.at c.args.bytes.now c.in-Some.found c.in-Some-write_refusal.refusal
+pub returns-in-Some-write_refusal-clause-step : goal.returns-in-Some-write_refusal-clause-step
+returns-in-Some-write_refusal-clause-step c =
+  write_refused c.args.self.now c.args.chunk c.args.at c.args.bytes.now c.in-Some.found c.in-Some-write_refusal.refusal
     (subst (λ es. IsFound es c.args.chunk c.in-Some.found) (c.deref.ensures.value ∙ ap (λ p. p.entries) c.self.view_is) c.in-Some.ensures.found)
-    (sym c.in-Some-write_refusal.ensures.rule);
-}
+    (sym c.in-Some-write_refusal.ensures.rule)
 
 pub overflow_mul-place : goal.overflow_mul-place
 overflow_mul-place c =
@@ -52,9 +50,10 @@ invariant_of-self c = sound_after (parts_of c.self.inside) _ 0 (command.Write c.
       (subst (λ p. write_rule p c.in-Some.found.entry c.args.at (length c.args.bytes.now) ≡ None) (sym c.self.view_is) (sym c.in_default-write_refusal.ensures.rule))
       (c.overwrite.ensures.written ∙ ap (λ n. overwritten c.self.inside.memory.items (c.in-Some.found.entry.bucket * n + c.args.at) c.args.bytes.now) c.bucket_size.ensures.value) 0)
 
-pub returns : goal.returns
-returns c = record { step = λ place. subst (λ p. Does p place (command.Write c.args.chunk c.args.at c.args.bytes.now) Written (record (parts_of c.self.inside) { memory = c.overwrite.new.memory.items })) c.self.view_is
+pub returns-clause-step : goal.returns-clause-step
+returns-clause-step c =
+  λ place. subst (λ p. Does p place (command.Write c.args.chunk c.args.at c.args.bytes.now) Written (record (parts_of c.self.inside) { memory = c.overwrite.new.memory.items })) c.self.view_is
     (written_to (parts_of c.self.inside) c.args.chunk c.args.at c.args.bytes.now c.in-Some.found c.overwrite.new.memory.items
       (subst (λ es. IsFound es c.args.chunk c.in-Some.found) c.deref.ensures.value c.in-Some.ensures.found)
       (subst (λ p. write_rule p c.in-Some.found.entry c.args.at (length c.args.bytes.now) ≡ None) (sym c.self.view_is) (sym c.in_default-write_refusal.ensures.rule))
-      (c.overwrite.ensures.written ∙ ap (λ n. overwritten c.self.inside.memory.items (c.in-Some.found.entry.bucket * n + c.args.at) c.args.bytes.now) c.bucket_size.ensures.value) place) }
+      (c.overwrite.ensures.written ∙ ap (λ n. overwritten c.self.inside.memory.items (c.in-Some.found.entry.bucket * n + c.args.at) c.args.bytes.now) c.bucket_size.ensures.value) place)

@@ -1,0 +1,10 @@
+use Rattle.std.proofs.Common.{◌≡◌, ◌+◌, ◌≤◌, ◌++◌, ℕ}
+use Rattle.std.specs.List.{flat_map}
+use Rattle.cal_transport.specs.Ledger.{numbers_below}
+use Rattle.cal_transport.specs.Transit.{transit_reply}
+use Rattle.cal_transport.proofs.Transits.{Listed}
+use Rattle.cal_transport.proofs.transport.transit.append_transit.Given as goal
+
+-- the buckets so far are told, and there is room for the others
+abbrev pub invariant-loop-bucket : goal.invariant-loop-bucket
+invariant-loop-bucket l = Listed l.used l.entries l.owners l.size l.bucket l.limit l.fn.into.items l.into.items l.into.spare
