@@ -1,0 +1,7 @@
+pub mod Words
+pub mod Script
+pub mod Spelling
+pub mod ReplyText
+pub mod Streams
+pub mod Outcome
+pub mod Examples

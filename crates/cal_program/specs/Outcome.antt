@@ -1,0 +1,129 @@
+-- What a run of the program owes: the status, the replies that it hands out, and the text that it writes.
+use Rattle.std.specs.Prelude.{ℕ, ◌≡◌, ◌<◌, ◌≤◌, Bool, true, false, nat_lt, IsTrue, if◌then◌else◌, List, [], ◌∷◌, ◌++◌, length, Option, Some, None, Result, Ok, Err, decimal, codes, bytes_eq}
+use Rattle.std.specs.Io.KnownBytes.{IsAtEnd}
+use Rattle.cal_transport.specs.declared.settings.CreateCause.{CreateCause}
+use Rattle.cal_transport.specs.declared.settings.CreateCause.TheVariants.{BadLayout, SizeOutOfRange, SizeIsZero, InternalError}
+use Rattle.cal_transport.specs.declared.command.Command.{Command}
+use Rattle.cal_transport.specs.declared.command.Command.TheVariants as command
+use Rattle.cal_transport.specs.declared.reply.Reply.{Reply}
+use Rattle.cal_transport.specs.Settings.{create_cause}
+use Rattle.cal_transport.specs.Run.{IsRun, StopsForMemory, StopsUnbuilt, is_built}
+use Rattle.cal_program.specs.declared.status.Status.{Status}
+use Rattle.cal_program.specs.declared.status.Status.TheVariants.{Done, BadScript, NotCreated, ReadFault, WriteFault, NoMemory, Usage, TooLong, NotBuilt}
+use Rattle.cal_program.specs.Script.{Reading, script_of}
+use Rattle.cal_program.specs.ReplyText.{line, reply_lines}
+use Rattle.cal_program.specs.Streams.{SourceState, SinkState, Rose, Takes, Puts, PutsFront}
+
+-- ---- words and limits
+
+-- a script has at most this many bytes
+abbrev pub script_limit : ℕ
+script_limit = 16777216
+
+-- the command line asks for a run: the one word `run`
+abbrev pub asks_for_run : List (List ℕ) → Bool
+asks_for_run [] = false
+asks_for_run (word ∷ []) = bytes_eq word (codes "run")
+asks_for_run (word ∷ next ∷ words) = false
+
+-- ---- text
+
+abbrev pub cause_name : CreateCause → List ℕ
+cause_name BadLayout = codes "BadLayout"
+cause_name SizeOutOfRange = codes "SizeOutOfRange"
+cause_name SizeIsZero = codes "SizeIsZero"
+cause_name InternalError = codes "InternalError"
+
+-- what a status has written, with the replies that it hands out
+abbrev pub status_text : Status → List Reply → List ℕ
+status_text Done replies = reply_lines replies
+status_text (BadScript number) replies = line (codes "line " ++ decimal number)
+status_text (NotCreated cause) replies = line (codes "create " ++ cause_name cause)
+status_text ReadFault replies = []
+status_text WriteFault replies = []
+status_text NoMemory replies = []
+status_text Usage replies = line (codes "usage: run, make NUMBER ROUNDS, relay BUFFER COUNT")
+status_text TooLong replies = line (codes "too long")
+status_text NotBuilt replies = line (codes "not built")
+
+-- ---- the status that words and bytes are due, where nothing fails
+
+-- why no transport can be made with these settings; else whether such transports are built
+abbrev pub settings_status : Option CreateCause → Bool → Status
+settings_status (Some cause) built = NotCreated cause
+settings_status None true = Done
+settings_status None false = NotBuilt
+
+abbrev pub script_status : Result Reading ℕ → Status
+script_status (Err number) = BadScript number
+script_status (Ok script) = settings_status (create_cause script.settings) (is_built script.settings)
+
+abbrev pub due_status : List (List ℕ) → List ℕ → Status
+due_status words bytes =
+    if asks_for_run words then (if nat_lt script_limit (length bytes) then TooLong else script_status (script_of bytes)) else Usage
+
+-- ---- what is due for each status
+
+-- The transport answered a script so.
+abbrev pub IsAnswer : Reading → Status → List Reply → Type 0
+IsAnswer script Done replies = IsRun script.settings script.commands replies
+IsAnswer script (NotCreated cause) replies = (create_cause script.settings ≡ Some cause) × (replies ≡ [])
+IsAnswer script NotBuilt replies =
+    (create_cause script.settings ≡ None) × ((answered : List Reply) × StopsUnbuilt script.settings script.commands answered) × (replies ≡ [])
+IsAnswer script NoMemory replies = StopsForMemory script.settings script.commands replies
+IsAnswer script other replies = ⊥
+
+-- These bytes were read to their end, and judged so.
+abbrev pub IsVerdict : List ℕ → Status → List Reply → Type 0
+IsVerdict bytes (BadScript number) replies = (script_of bytes ≡ Err number) × (replies ≡ [])
+IsVerdict bytes status replies = (script : Reading) × (script_of bytes ≡ Ok script) × IsAnswer script status replies
+
+-- All bytes that the source had were taken, and they aren't too many.
+pub record ReadsAll (before now : SourceState) (bytes : List ℕ) : Type 0 where
+  pub taken : Takes before now bytes
+  pub ended : IsAtEnd now.left
+  pub within : length bytes ≤ script_limit
+
+-- This status is due, with these replies: before anything is written.
+abbrev pub IsDue : List (List ℕ) → SourceState → SourceState → Status → List Reply → Type 0
+IsDue words before now Usage replies = (asks_for_run words ≡ false) × (now ≡ before) × (replies ≡ [])
+IsDue words before now ReadFault replies =
+    IsTrue (asks_for_run words) × ((bytes : List ℕ) × Takes before now bytes) × Rose before.faults now.faults × (replies ≡ [])
+IsDue words before now TooLong replies =
+    IsTrue (asks_for_run words) × ((bytes : List ℕ) × Takes before now bytes × (script_limit < length bytes)) × (replies ≡ [])
+IsDue words before now NoMemory [] = IsTrue (asks_for_run words) × ((bytes : List ℕ) × Takes before now bytes)
+IsDue words before now status replies =
+    IsTrue (asks_for_run words) × ((bytes : List ℕ) × ReadsAll before now bytes × IsVerdict bytes status replies)
+
+-- A text was put into the sink, and the status that was due stays; or the sink failed after a front of it. The sink
+-- is left alone where there is no text.
+abbrev pub IsWritten : SinkState → SinkState → List ℕ → Status → Status → Type 0
+IsWritten before now [] due status = (now ≡ before) × (status ≡ due)
+IsWritten before now (byte ∷ bytes) due WriteFault = PutsFront before now (byte ∷ bytes)
+IsWritten before now (byte ∷ bytes) due status = Puts before now (byte ∷ bytes) × (status ≡ due)
+
+-- The program ended so: some status was due, and its text was written.
+abbrev pub EndsDue : List (List ℕ) → SourceState → SourceState → SinkState → SinkState → Status → List Reply → Type 0
+EndsDue words source_before source_now sink_before sink_now status replies =
+    (due : Status) × IsDue words source_before source_now due replies × IsWritten sink_before sink_now (status_text due replies) due status
+
+-- ---- when each status comes, for bytes that are known
+
+-- a command isn't built yet
+abbrev pub has_unbuilt : List Command → Bool
+has_unbuilt [] = false
+has_unbuilt (command.Count ∷ commands) = true
+has_unbuilt (asked ∷ commands) = has_unbuilt commands
+
+abbrev pub reads_unbuilt : Result Reading ℕ → Bool
+reads_unbuilt (Err number) = false
+reads_unbuilt (Ok script) = has_unbuilt script.commands
+
+-- A status may come in place of the due one: a fault, where the count of faults rose; want of memory; and what isn't
+-- built yet.
+abbrev pub IsExcused : List ℕ → SourceState → SourceState → SinkState → SinkState → Status → Type 0
+IsExcused bytes source_before source_now sink_before sink_now ReadFault = Rose source_before.faults source_now.faults
+IsExcused bytes source_before source_now sink_before sink_now WriteFault = Rose sink_before.faults sink_now.faults
+IsExcused bytes source_before source_now sink_before sink_now NoMemory = Unit {0}
+IsExcused bytes source_before source_now sink_before sink_now NotBuilt = IsTrue (reads_unbuilt (script_of bytes))
+IsExcused bytes source_before source_now sink_before sink_now status = ⊥

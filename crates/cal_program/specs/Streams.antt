@@ -1,0 +1,48 @@
+-- What contracts see of a source and of a sink, and what their calls do to it.
+use Rattle.std.specs.Prelude.{ℕ, ◌≡◌, ◌≤◌, ◌+◌, ◌-◌, ◌^◌, min, List, length, take, Option}
+use Rattle.std.specs.Io.KnownBytes.{Keeps, Appends, Consumes}
+
+-- ---- faults
+
+-- A count of faults rose, or stands at its type's end, where it can't rise.
+abbrev pub Rose : ℕ → ℕ → Type 0
+Rose before now = min (before + 1) (2 ^ 64 - 1) ≤ now
+
+-- ---- sources
+
+-- the bytes that are left, where the source tells them; how many bytes it gave so far; how many of its calls failed
+pub record SourceState : Type 0 where
+  pub left : Option (List ℕ)
+  pub given : ℕ
+  pub faults : ℕ
+
+-- these bytes were taken from the front of what is left
+pub record Takes (before now : SourceState) (bytes : List ℕ) : Type 0 where
+  pub front : Consumes before.left now.left bytes
+  pub counted : now.given ≡ before.given + length bytes
+  pub faults_stay : before.faults ≤ now.faults
+
+-- a call failed: it took nothing
+pub record TakesNothing (before now : SourceState) : Type 0 where
+  pub kept : Keeps before.left now.left
+  pub counted : now.given ≡ before.given
+  pub fault : Rose before.faults now.faults
+  pub faults_stay : before.faults ≤ now.faults
+
+-- ---- sinks
+
+-- the bytes that the sink took, where it tells them; how many of its calls failed
+pub record SinkState : Type 0 where
+  pub written : Option (List ℕ)
+  pub faults : ℕ
+
+-- these bytes were put at the end
+pub record Puts (before now : SinkState) (bytes : List ℕ) : Type 0 where
+  pub appended : Appends before.written now.written bytes
+  pub faults_stay : before.faults ≤ now.faults
+
+-- a call failed: a front of these bytes was put at the end
+pub record PutsFront (before now : SinkState) (bytes : List ℕ) : Type 0 where
+  pub appended : (count : ℕ) × (count ≤ length bytes) × Appends before.written now.written (take count bytes)
+  pub fault : Rose before.faults now.faults
+  pub faults_stay : before.faults ≤ now.faults
