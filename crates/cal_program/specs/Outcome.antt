@@ -12,13 +12,10 @@ use Rattle.cal_program.specs.declared.status.Status.{Status}
 use Rattle.cal_program.specs.declared.status.Status.TheVariants.{Done, BadScript, NotCreated, ReadFault, WriteFault, NoMemory, Usage, TooLong, NotBuilt}
 use Rattle.cal_program.specs.Script.{Reading, script_of}
 use Rattle.cal_program.specs.ReplyText.{line, reply_lines}
-use Rattle.cal_program.specs.Streams.{SourceState, SinkState, Rose, Takes, Puts, PutsFront}
+use Rattle.cal_program.specs.Streams.{SourceState, SinkState, Rose, Puts, PutsFront}
+use Rattle.cal_program.specs.ReadAll.{script_limit, ReadsAll, ReadsSome, ReadsTooMany}
 
--- ---- words and limits
-
--- a script has at most this many bytes
-abbrev pub script_limit : ℕ
-script_limit = 16777216
+-- ---- words
 
 -- the command line asks for a run: the one word `run`
 abbrev pub asks_for_run : List (List ℕ) → Bool
@@ -78,20 +75,13 @@ abbrev pub IsVerdict : List ℕ → Status → List Reply → Type 0
 IsVerdict bytes (BadScript number) replies = (script_of bytes ≡ Err number) × (replies ≡ [])
 IsVerdict bytes status replies = (script : Reading) × (script_of bytes ≡ Ok script) × IsAnswer script status replies
 
--- All bytes that the source had were taken, and they aren't too many.
-pub record ReadsAll (before now : SourceState) (bytes : List ℕ) : Type 0 where
-  pub taken : Takes before now bytes
-  pub ended : IsAtEnd now.left
-  pub within : length bytes ≤ script_limit
-
 -- This status is due, with these replies: before anything is written.
 abbrev pub IsDue : List (List ℕ) → SourceState → SourceState → Status → List Reply → Type 0
 IsDue words before now Usage replies = (asks_for_run words ≡ false) × (now ≡ before) × (replies ≡ [])
 IsDue words before now ReadFault replies =
-    IsTrue (asks_for_run words) × ((bytes : List ℕ) × Takes before now bytes) × Rose before.faults now.faults × (replies ≡ [])
-IsDue words before now TooLong replies =
-    IsTrue (asks_for_run words) × ((bytes : List ℕ) × Takes before now bytes × (script_limit < length bytes)) × (replies ≡ [])
-IsDue words before now NoMemory [] = IsTrue (asks_for_run words) × ((bytes : List ℕ) × Takes before now bytes)
+    IsTrue (asks_for_run words) × ReadsSome before now × Rose before.faults now.faults × (replies ≡ [])
+IsDue words before now TooLong replies = IsTrue (asks_for_run words) × ReadsTooMany before now × (replies ≡ [])
+IsDue words before now NoMemory [] = IsTrue (asks_for_run words) × ReadsSome before now
 IsDue words before now status replies =
     IsTrue (asks_for_run words) × ((bytes : List ℕ) × ReadsAll before now bytes × IsVerdict bytes status replies)
 

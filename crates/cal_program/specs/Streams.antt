@@ -46,3 +46,23 @@ pub record PutsFront (before now : SinkState) (bytes : List ℕ) : Type 0 where
   pub appended : (count : ℕ) × (count ≤ length bytes) × Appends before.written now.written (take count bytes)
   pub fault : Rose before.faults now.faults
   pub faults_stay : before.faults ≤ now.faults
+
+-- ---- streams in memory, of which each call is numbered from 0, and some are to fail
+
+pub record MemorySourceState : Type 0 where
+  pub state : SourceState
+  pub calls : ℕ
+  pub failing : List ℕ
+
+pub record MemorySinkState : Type 0 where
+  pub state : SinkState
+  pub calls : ℕ
+  pub failing : List ℕ
+
+-- a source that gave nothing yet
+abbrev pub new_source : Option (List ℕ) → SourceState
+new_source left = record { left = left; given = 0; faults = 0 }
+
+-- a sink that took nothing yet
+abbrev pub new_sink : Option (List ℕ) → SinkState
+new_sink written = record { written = written; faults = 0 }

@@ -1,10 +1,14 @@
 //! Runs scripts over a transport: `cal_program run` reads a script and writes the replies to its commands.
 #![tactic(auto)]
 
+mod clean;
 mod examples;
+mod memory;
+mod read;
 mod script;
 mod sink;
 mod source;
 mod status;
+mod std_streams;
 
 fn main() {}

@@ -1,0 +1,46 @@
+-- Calls of a source and of a sink, one after another.
+use Rattle.std.proofs.Common.{◌≡◌, ℕ, ◌+◌, ◌-◌, ◌^◌, ◌≤◌, ◌<◌, List, [], ◌∷◌, ◌++◌, length, take, Option, Some, None, refl, sym, ap, ◌∙◌, append_assoc, arith, rules}
+use Rattle.std.specs.Prelude.{min}
+use Rattle.std.specs.Io.KnownBytes.{Keeps, Appends, Consumes}
+use Rattle.std.proofs.lemmas.List.{append-nil, length-append}
+use Rattle.cal_program.specs.Streams.{SourceState, SinkState, Rose, Takes, TakesNothing, Puts, PutsFront}
+
+-- ---- sources
+
+Consumes-none : (left : Option (List ℕ)) → Consumes left left []
+Consumes-none None = tt
+Consumes-none (Some xs) = refl
+
+Consumes-then : (a b c : Option (List ℕ)) (x y : List ℕ) → Consumes a b x → Consumes b c y → Consumes a c (x ++ y)
+Consumes-then None b c x y p q = tt
+Consumes-then (Some xs) (Some ys) None x y p q = absurd q
+Consumes-then (Some xs) (Some ys) (Some zs) x y p q = p ∙ ap (λ (t : List ℕ). x ++ t) q ∙ sym (append_assoc x y zs)
+Consumes-then (Some xs) None c x y p q = absurd p
+
+Consumes-keeps : (a b c : Option (List ℕ)) (x : List ℕ) → Consumes a b x → Keeps b c → Consumes a c x
+Consumes-keeps None b c x p q = tt
+Consumes-keeps (Some xs) None c x p q = absurd p
+Consumes-keeps (Some xs) (Some ys) None x p q = absurd q
+Consumes-keeps (Some xs) (Some ys) (Some zs) x p q = p ∙ ap (λ (t : List ℕ). x ++ t) (sym q)
+
+-- no call was made
+pub Takes-none : (a : SourceState) → Takes a a []
+Takes-none a = record { front = Consumes-none a.left; counted = omega arith; faults_stay = omega arith }
+
+pub Takes-then : (a b c : SourceState) (x y : List ℕ) → Takes a b x → Takes b c y → Takes a c (x ++ y)
+Takes-then a b c x y p q = record {
+  front = Consumes-then a.left b.left c.left x y p.front q.front;
+  counted = omega (arith, p.counted, q.counted, length-append x y);
+  faults_stay = omega (arith, p.faults_stay, q.faults_stay);
+}
+
+-- a call failed after others
+pub Takes-failed : (a b c : SourceState) (x : List ℕ) → Takes a b x → TakesNothing b c → Takes a c x
+Takes-failed a b c x p q = record {
+  front = Consumes-keeps a.left b.left c.left x p.front q.kept;
+  counted = omega (arith, p.counted, q.counted);
+  faults_stay = omega (arith, p.faults_stay, q.faults_stay);
+}
+
+pub Rose-later : (a b c : ℕ) → a ≤ b → Rose b c → Rose a c
+Rose-later a b c p q = omega arith
