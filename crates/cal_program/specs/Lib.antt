@@ -4,5 +4,6 @@ pub mod Spelling
 pub mod ReplyText
 pub mod Streams
 pub mod ReadAll
+pub mod Printing
 pub mod Outcome
 pub mod Examples

@@ -12,7 +12,7 @@ use Rattle.cal_program.specs.declared.status.Status.{Status}
 use Rattle.cal_program.specs.declared.status.Status.TheVariants.{Done, BadScript, NotCreated, ReadFault, WriteFault, NoMemory, Usage, TooLong, NotBuilt}
 use Rattle.cal_program.specs.Script.{Reading, script_of}
 use Rattle.cal_program.specs.ReplyText.{line, reply_lines}
-use Rattle.cal_program.specs.Streams.{SourceState, SinkState, Rose, Puts, PutsFront}
+use Rattle.cal_program.specs.Streams.{SourceState, SinkState, Rose, PutsAll, FailsWithin}
 use Rattle.cal_program.specs.ReadAll.{script_limit, ReadsAll, ReadsSome, ReadsTooMany}
 
 -- ---- words
@@ -85,12 +85,10 @@ IsDue words before now NoMemory [] = IsTrue (asks_for_run words) × ReadsSome be
 IsDue words before now status replies =
     IsTrue (asks_for_run words) × ((bytes : List ℕ) × ReadsAll before now bytes × IsVerdict bytes status replies)
 
--- A text was put into the sink, and the status that was due stays; or the sink failed after a front of it. The sink
--- is left alone where there is no text.
+-- The text of the status that was due was put into the sink, and that status stays; or the sink failed within it.
 abbrev pub IsWritten : SinkState → SinkState → List ℕ → Status → Status → Type 0
-IsWritten before now [] due status = (now ≡ before) × (status ≡ due)
-IsWritten before now (byte ∷ bytes) due WriteFault = PutsFront before now (byte ∷ bytes)
-IsWritten before now (byte ∷ bytes) due status = Puts before now (byte ∷ bytes) × (status ≡ due)
+IsWritten before now text due WriteFault = FailsWithin before now text
+IsWritten before now text due status = PutsAll before now text × (status ≡ due)
 
 -- The program ended so: some status was due, and its text was written.
 abbrev pub EndsDue : List (List ℕ) → SourceState → SourceState → SinkState → SinkState → Status → List Reply → Type 0

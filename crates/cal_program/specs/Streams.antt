@@ -1,5 +1,5 @@
 -- What contracts see of a source and of a sink, and what their calls do to it.
-use Rattle.std.specs.Prelude.{ℕ, ◌≡◌, ◌≤◌, ◌+◌, ◌-◌, ◌^◌, min, List, length, take, Option}
+use Rattle.std.specs.Prelude.{ℕ, ◌≡◌, ◌<◌, ◌≤◌, ◌+◌, ◌-◌, ◌^◌, min, List, [], length, take, Option}
 use Rattle.std.specs.Io.KnownBytes.{Keeps, Appends, Consumes}
 
 -- ---- faults
@@ -46,6 +46,16 @@ pub record PutsFront (before now : SinkState) (bytes : List ℕ) : Type 0 where
   pub appended : (count : ℕ) × (count ≤ length bytes) × Appends before.written now.written (take count bytes)
   pub fault : Rose before.faults now.faults
   pub faults_stay : before.faults ≤ now.faults
+
+-- All of a text was put. Where there is none, the sink was left alone.
+pub record PutsAll (before now : SinkState) (text : List ℕ) : Type 0 where
+  pub puts : Puts before now text
+  pub untouched : text ≡ [] → now ≡ before
+
+-- The sink failed within a text.
+pub record FailsWithin (before now : SinkState) (text : List ℕ) : Type 0 where
+  pub some : 0 < length text
+  pub puts : PutsFront before now text
 
 -- ---- streams in memory, of which each call is numbered from 0, and some are to fail
 

@@ -4,6 +4,8 @@
 mod clean;
 mod examples;
 mod memory;
+mod page;
+mod print;
 mod read;
 mod script;
 mod sink;
