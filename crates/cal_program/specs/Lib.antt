@@ -1,5 +1,6 @@
 pub mod Words
 pub mod Script
+pub mod Parsing
 pub mod Spelling
 pub mod ReplyText
 pub mod Streams

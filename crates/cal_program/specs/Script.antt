@@ -22,6 +22,12 @@ switch_of word =
     else if bytes_eq word (codes "off") then Some false
     else None
 
+-- a number of at most eight bits
+abbrev pub small_number_of : List ℕ → Option ℕ
+small_number_of word = do
+  number ← number_of word
+  at_most 255 number
+
 -- the ten words after `transport`
 abbrev pub settings_of_words : List (List ℕ) → Option Settings
 settings_of_words (size ∷ alignment ∷ count ∷ strategy ∷ buffer ∷ borrow ∷ overflow ∷ samples ∷ segments ∷ channels ∷ []) = do
@@ -33,8 +39,7 @@ settings_of_words (size ∷ alignment ∷ count ∷ strategy ∷ buffer ∷ borr
   borrow ← number_of borrow
   overflow ← switch_of overflow
   samples ← number_of samples
-  segments ← number_of segments
-  segments ← at_most 255 segments
+  segments ← small_number_of segments
   channels ← number_of channels
   Some (record {
     size = size;

@@ -1,5 +1,6 @@
 -- How bytes are cut into lines and words, and the numbers and bytes that words stand for.
 use Rattle.std.specs.Prelude.{ℕ, ◌+◌, ◌-◌, ◌*◌, ◌^◌, Bool, true, false, not, ◌&&◌, ◌==◌, nat_lt, nat_le, if◌then◌else◌, List, [], ◌∷◌, Option, Some, None, option_and_then, codes, bytes_eq}
+use Rattle.std.specs.Int.{is_in_range}
 use Rattle.std.specs.Str.{all_ascii_digits}
 use Rattle.std.specs.Str.Parse.{digits_value}
 
@@ -46,23 +47,29 @@ at_most limit number = if nat_le number limit then Some number else None
 -- the value of a letter `0` to `9` or `a` to `f`
 abbrev pub hex_value : ℕ → Option ℕ
 hex_value letter =
-    if nat_le 48 letter && nat_le letter 57 then Some (letter - 48)
-    else if nat_le 97 letter && nat_le letter 102 then Some (letter - 87)
+    if is_in_range 48 57 letter then Some (letter - 48)
+    else if is_in_range 97 102 letter then Some (letter - 87)
     else None
 
 infixl 10 ◌>>=◌
 abbrev pub ◌>>=◌ : {A B : Type 0} → Option A → (A → Option B) → Option B
 found >>= f = option_and_then f found
 
--- two letters for each byte, the high half first
+-- the byte of two letters, the high half first
+abbrev pub byte_of : ℕ → ℕ → Option ℕ
+byte_of high low = do
+  h ← hex_value high
+  l ← hex_value low
+  Some (16 * h + l)
+
+-- two letters for each byte
 abbrev pub bytes_of_letters : List ℕ → Option (List ℕ)
 bytes_of_letters [] = Some []
 bytes_of_letters (high ∷ []) = None
 bytes_of_letters (high ∷ low ∷ letters) = do
-  h ← hex_value high
-  l ← hex_value low
+  byte ← byte_of high low
   bytes ← bytes_of_letters letters
-  Some ((16 * h + l) ∷ bytes)
+  Some (byte ∷ bytes)
 
 -- the bytes that a word stands for: a dash stands for none
 abbrev pub bytes_of : List ℕ → Option (List ℕ)

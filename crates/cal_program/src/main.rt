@@ -12,5 +12,6 @@ mod sink;
 mod source;
 mod status;
 mod std_streams;
+mod words;
 
 fn main() {}
