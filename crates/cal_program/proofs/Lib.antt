@@ -1,3 +1,5 @@
 pub mod StreamLemmas
 pub mod PageLemmas
 pub mod WordLemmas
+pub mod PieceLemmas
+pub mod ScriptLemmas
