@@ -3,3 +3,4 @@ pub mod PageLemmas
 pub mod WordLemmas
 pub mod PieceLemmas
 pub mod ScriptLemmas
+pub mod OutcomeLemmas

@@ -1,5 +1,5 @@
 -- What a page shows, one text after another.
-use Rattle.std.proofs.Common.{◌≡◌, ℕ, zero, suc, ◌+◌, Some, ◌<◌, ◌≤◌, Bool, true, false, List, [], ◌∷◌, ◌++◌, length, take, refl, sym, ap, ◌∙◌, subst, append_assoc, add-one, arith}
+use Rattle.std.proofs.Common.{◌≡◌, ℕ, zero, suc, ◌+◌, Some, ◌<◌, Bool, true, false, List, [], ◌∷◌, ◌++◌, length, take, refl, sym, ap, ◌∙◌, subst, append_assoc, add-one, arith}
 use Rattle.std.specs.Prelude.{MatchBool, slice_get}
 use Rattle.std.specs.List.{flat_map}
 use Rattle.std.proofs.lemmas.List.{append-nil, length-append}
@@ -104,14 +104,14 @@ pub whole-failed : (p q r : PageState) (s t u : SinkState) (text : List ℕ) →
 whole-failed p q r s t u text new f g failed =
     shown-failed s u r text failed
     (shows-same s r u (text ++ []) text (append-nil text)
-        (g s text (f s [] (subst (λ (page : PageState). HasShown s page s []) (sym new) (shown-none s)))))
+    (g s text (f s [] (subst (λ (page : PageState). HasShown s page s []) (sym new) (shown-none s)))))
 
 -- a whole text was put
 pub whole-all : (p q r : PageState) (s t u : SinkState) (text : List ℕ) → p ≡ page_state [] false → Follows p s q t text → Follows q t r u [] → r.failed ≡ false → r.held ≡ [] → PutsAll s u text
 whole-all p q r s t u text new f g clean none =
     shown-all s u r text clean none
     (shows-same s r u (text ++ []) text (append-nil text)
-        (g s text (f s [] (subst (λ (page : PageState). HasShown s page s []) (sym new) (shown-none s)))))
+    (g s text (f s [] (subst (λ (page : PageState). HasShown s page s []) (sym new) (shown-none s)))))
 
 -- one reply more
 pub reply_lines-more : (replies : List Reply) (place : ℕ) (reply : Reply) → slice_get replies place ≡ Some reply → reply_lines (take (suc place) replies) ≡ reply_lines (take place replies) ++ line (reply_text reply)

@@ -1,8 +1,8 @@
 -- The commands of lines, one after another.
-use Rattle.std.proofs.Common.{◌≡◌, ℕ, suc, ◌+◌, List, [], ◌∷◌, ◌++◌, length, Option, Some, None, Result, Ok, Err, refl, sym, ap, ◌∙◌, append_assoc, arith}
+use Rattle.std.proofs.Common.{◌≡◌, ℕ, ◌+◌, List, [], ◌∷◌, ◌++◌, length, Some, None, Result, Ok, Err, refl, sym, ap, ◌∙◌, append_assoc, arith}
 use Rattle.std.proofs.lemmas.List.{length-append, append-nil}
 use Rattle.cal_transport.specs.declared.command.Command.{Command}
-use Rattle.cal_program.specs.Script.{command_of, commands_of, command_at, before_others}
+use Rattle.cal_program.specs.Script.{command_of, commands_of, before_others}
 
 -- commands before the others, unless one of them is bad
 abbrev pub after_front : List Command → Result (List Command) ℕ → Result (List Command) ℕ
@@ -24,8 +24,8 @@ pub completes-more : (front : List Command) (command : Command) (line : List ℕ
 completes-more front command line lines e =
     rw e
     (front-step front command (commands_of (2 + length front + 1) lines)
-        ∙ ap (λ (n : ℕ). after_front (front ++ command ∷ []) (commands_of n lines)) {x = 2 + length front + 1} {y = 2 + length (front ++ command ∷ [])}
-        (omega (arith, length-append front (command ∷ []))))
+    ∙ ap (λ (n : ℕ). after_front (front ++ command ∷ []) (commands_of n lines)) {x = 2 + length front + 1} {y = 2 + length (front ++ command ∷ [])}
+    (omega (arith, length-append front (command ∷ []))))
 
 pub completes-bad : (front : List Command) (line : List ℕ) (lines : List (List ℕ)) → command_of line ≡ None → completes front (line ∷ lines) ≡ Err (2 + length front)
 completes-bad front line lines e = rw e refl

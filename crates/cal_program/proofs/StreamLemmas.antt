@@ -1,6 +1,5 @@
 -- Calls of a source and of a sink, one after another.
-use Rattle.std.proofs.Common.{◌≡◌, ℕ, ◌+◌, ◌-◌, ◌^◌, ◌≤◌, ◌<◌, List, [], ◌∷◌, ◌++◌, length, take, Option, Some, None, refl, sym, ap, ◌∙◌, append_assoc, subst, arith, rules}
-use Rattle.std.specs.Prelude.{min}
+use Rattle.std.proofs.Common.{◌≡◌, ℕ, ◌+◌, ◌≤◌, List, [], ◌++◌, length, take, Option, Some, None, refl, sym, ap, ◌∙◌, append_assoc, subst, arith}
 use Rattle.std.specs.Io.KnownBytes.{Keeps, Appends, Consumes}
 use Rattle.std.proofs.lemmas.List.{append-nil, length-append, take-append-le}
 use Rattle.std.proofs.Math.Seq.{take-append-add}
@@ -69,9 +68,12 @@ Puts-then a b c x y p q = record {
 
 pub PutsFront-then : (a b c : SinkState) (x y : List ℕ) → Puts a b x → PutsFront b c y → PutsFront a c (x ++ y)
 PutsFront-then a b c x y p q = record {
-  appended = (length x + q.appended.0, omega (arith, q.appended.1, length-append x y),
-      subst (λ (t : List ℕ). Appends a.written c.written t) (sym (take-append-add x y q.appended.0))
-      (Appends-then a.written b.written c.written x (take q.appended.0 y) p.appended q.appended.2));
+  appended = (
+    length x + q.appended.0,
+    omega (arith, q.appended.1, length-append x y),
+    subst (λ (t : List ℕ). Appends a.written c.written t) (sym (take-append-add x y q.appended.0))
+        (Appends-then a.written b.written c.written x (take q.appended.0 y) p.appended q.appended.2),
+  );
   fault = Rose-later a.faults b.faults c.faults p.faults_stay q.fault;
   faults_stay = omega (arith, p.faults_stay, q.faults_stay);
 }
@@ -82,8 +84,11 @@ take-more x y k le = sym (take-append-le k x y le)
 -- more of the text was due
 pub PutsFront-more : (a b : SinkState) (x y : List ℕ) → PutsFront a b x → PutsFront a b (x ++ y)
 PutsFront-more a b x y p = record {
-  appended = (p.appended.0, omega (arith, p.appended.1, length-append x y),
-      subst (λ (t : List ℕ). Appends a.written b.written t) (take-more x y p.appended.0 p.appended.1) p.appended.2);
+  appended = (
+    p.appended.0,
+    omega (arith, p.appended.1, length-append x y),
+    subst (λ (t : List ℕ). Appends a.written b.written t) (take-more x y p.appended.0 p.appended.1) p.appended.2,
+  );
   fault = p.fault;
   faults_stay = p.faults_stay;
 }

@@ -1,5 +1,5 @@
 -- Numbers, bytes and words, as the parser finds them.
-use Rattle.std.proofs.Common.{◌≡◌, ℕ, zero, suc, ◌+◌, ◌-◌, ◌*◌, ◌^◌, ◌<◌, ◌≤◌, Bool, true, false, cond, ◌&&◌, List, [], ◌∷◌, ◌++◌, length, get_or, take, drop, Option, Some, None, refl, sym, ap, ◌∙◌, subst, append_assoc, add-one, arith, rules}
+use Rattle.std.proofs.Common.{◌≡◌, ℕ, zero, suc, ◌+◌, ◌-◌, ◌*◌, ◌^◌, ◌<◌, ◌≤◌, Bool, true, false, cond, ◌&&◌, List, [], ◌∷◌, ◌++◌, length, get_or, take, drop, Option, Some, None, refl, sym, ap, ◌∙◌, subst, append_assoc, add-one, arith}
 use Rattle.std.specs.Prelude.{option_map, option_and_then, nat_lt, nat_le}
 use Rattle.std.specs.Char.{digit_value, is_ascii_digit}
 use Rattle.std.specs.Str.{all_ascii_digits}
@@ -59,7 +59,7 @@ number_of-all word i value begins past digits is fits =
     let all : all_ascii_digits word ≡ true = subst (λ (t : List ℕ). all_ascii_digits t ≡ true) whole digits in
     let same : value ≡ digits_value 10 word = is ∙ ap (λ (t : List ℕ). digits_value 10 t) whole in
     ap Some same ∙ sym (guard-all (begins_well word) (all_ascii_digits word) (nat_lt (digits_value 10 word) (2 ^ 64)) (digits_value 10 word) begins all
-        (lt-ltb (digits_value 10 word) (2 ^ 64) (omega (arith, same))))
+    (lt-ltb (digits_value 10 word) (2 ^ 64) (omega (arith, same))))
 
 pub number_of-ill : (word : List ℕ) → begins_well word ≡ false → None ≡ number_of word
 number_of-ill word e = sym (guard-first (begins_well word) (all_ascii_digits word) (nat_lt (digits_value 10 word) (2 ^ 64)) (digits_value 10 word) e)
@@ -92,8 +92,8 @@ letters-cut letters place h =
     drop-cons letters place 0 (omega arith)
     ∙ ap (λ (t : List ℕ). get_or letters place 0 ∷ t)
     (ap (λ (n : ℕ). drop n letters) {x = suc place} {y = place + 1} (omega arith)
-        ∙ drop-cons letters (place + 1) 0 h
-        ∙ ap (λ (n : ℕ). get_or letters (place + 1) 0 ∷ drop n letters) {x = suc (place + 1)} {y = place + 2} (omega arith))
+    ∙ drop-cons letters (place + 1) 0 h
+    ∙ ap (λ (n : ℕ). get_or letters (place + 1) 0 ∷ drop n letters) {x = suc (place + 1)} {y = place + 2} (omega arith))
 
 front-step : (front : List ℕ) (byte : ℕ) (found : Option (List ℕ)) → with_front front (option_map (λ bytes. byte ∷ bytes) found) ≡ with_front (front ++ byte ∷ []) found
 front-step front byte None = refl
@@ -109,18 +109,18 @@ pub letters-more : (front letters : List ℕ) (place byte : ℕ) (whole : Option
 letters-more front letters place byte whole h e before =
     sym (front-step front byte (bytes_of_letters (drop (place + 2) letters)))
     ∙ ap (with_front front) (sym (ap bytes_of_letters (letters-cut letters place h)
-            ∙ pair-step (get_or letters place 0) (get_or letters (place + 1) 0) byte (drop (place + 2) letters) e))
+    ∙ pair-step (get_or letters place 0) (get_or letters (place + 1) 0) byte (drop (place + 2) letters) e))
     ∙ before
 
 pub letters-none : (front letters : List ℕ) (place : ℕ) (whole : Option (List ℕ)) → place + 1 < length letters → byte_of (get_or letters place 0) (get_or letters (place + 1) 0) ≡ None → with_front front (bytes_of_letters (drop place letters)) ≡ whole → None ≡ whole
 letters-none front letters place whole h e before =
     sym (ap (with_front front) (ap bytes_of_letters (letters-cut letters place h)
-            ∙ pair-none (get_or letters place 0) (get_or letters (place + 1) 0) (drop (place + 2) letters) e))
+    ∙ pair-none (get_or letters place 0) (get_or letters (place + 1) 0) (drop (place + 2) letters) e))
     ∙ before
 
 pub letters-odd : (front letters : List ℕ) (place : ℕ) (whole : Option (List ℕ)) → place < length letters → length letters ≤ place + 1 → with_front front (bytes_of_letters (drop place letters)) ≡ whole → None ≡ whole
 letters-odd front letters place whole h k before =
     let last : drop place letters ≡ get_or letters place 0 ∷ [] =
-            drop-cons letters place 0 h ∙ ap (λ (t : List ℕ). get_or letters place 0 ∷ t) (drop_of_length-le letters {i = suc place} (omega arith))
+    drop-cons letters place 0 h ∙ ap (λ (t : List ℕ). get_or letters place 0 ∷ t) (drop_of_length-le letters {i = suc place} (omega arith))
     in
     sym (ap (with_front front) (ap bytes_of_letters last)) ∙ before

@@ -1,6 +1,6 @@
 -- What a run of the program owes: the status, the replies that it hands out, and the text that it writes.
-use Rattle.std.specs.Prelude.{ℕ, ◌≡◌, ◌<◌, ◌≤◌, Bool, true, false, nat_lt, IsTrue, if◌then◌else◌, List, [], ◌∷◌, ◌++◌, length, Option, Some, None, Result, Ok, Err, decimal, codes, bytes_eq}
-use Rattle.std.specs.Io.KnownBytes.{IsAtEnd}
+use Rattle.std.specs.Prelude.{ℕ, ◌≡◌, Bool, true, false, nat_lt, IsTrue, if◌then◌else◌, ◌⊎◌, List, [], ◌∷◌, ◌++◌, length, Option, Some, None, Result, Ok, Err, decimal, codes, bytes_eq}
+use Rattle.std.specs.List.{list_any}
 use Rattle.cal_transport.specs.declared.settings.CreateCause.{CreateCause}
 use Rattle.cal_transport.specs.declared.settings.CreateCause.TheVariants.{BadLayout, SizeOutOfRange, SizeIsZero, InternalError}
 use Rattle.cal_transport.specs.declared.command.Command.{Command}
@@ -30,6 +30,18 @@ cause_name BadLayout = codes "BadLayout"
 cause_name SizeOutOfRange = codes "SizeOutOfRange"
 cause_name SizeIsZero = codes "SizeIsZero"
 cause_name InternalError = codes "InternalError"
+
+-- the exit status
+abbrev pub status_code : Status → ℕ
+status_code Done = 0
+status_code (BadScript number) = 1
+status_code (NotCreated cause) = 2
+status_code ReadFault = 3
+status_code WriteFault = 4
+status_code NoMemory = 5
+status_code Usage = 6
+status_code TooLong = 7
+status_code NotBuilt = 8
 
 -- what a status has written, with the replies that it hands out
 abbrev pub status_text : Status → List Reply → List ℕ
@@ -63,7 +75,8 @@ due_status words bytes =
 
 -- The transport answered a script so.
 abbrev pub IsAnswer : Reading → Status → List Reply → Type 0
-IsAnswer script Done replies = IsRun script.settings script.commands replies
+IsAnswer script Done replies =
+    (create_cause script.settings ≡ None) × IsTrue (is_built script.settings) × IsRun script.settings script.commands replies
 IsAnswer script (NotCreated cause) replies = (create_cause script.settings ≡ Some cause) × (replies ≡ [])
 IsAnswer script NotBuilt replies =
     (create_cause script.settings ≡ None) × ((answered : List Reply) × StopsUnbuilt script.settings script.commands answered) × (replies ≡ [])
@@ -73,6 +86,7 @@ IsAnswer script other replies = ⊥
 -- These bytes were read to their end, and judged so.
 abbrev pub IsVerdict : List ℕ → Status → List Reply → Type 0
 IsVerdict bytes (BadScript number) replies = (script_of bytes ≡ Err number) × (replies ≡ [])
+IsVerdict bytes NoMemory [] = Unit {0}
 IsVerdict bytes status replies = (script : Reading) × (script_of bytes ≡ Ok script) × IsAnswer script status replies
 
 -- This status is due, with these replies: before anything is written.
@@ -95,23 +109,39 @@ abbrev pub EndsDue : List (List ℕ) → SourceState → SourceState → SinkSta
 EndsDue words source_before source_now sink_before sink_now status replies =
     (due : Status) × IsDue words source_before source_now due replies × IsWritten sink_before sink_now (status_text due replies) due status
 
--- ---- when each status comes, for bytes that are known
+-- ---- when each status comes, where the source tells its bytes
 
--- a command isn't built yet
-abbrev pub has_unbuilt : List Command → Bool
-has_unbuilt [] = false
-has_unbuilt (command.Count ∷ commands) = true
-has_unbuilt (asked ∷ commands) = has_unbuilt commands
+-- the command isn't built yet
+abbrev pub is_unbuilt : Command → Bool
+is_unbuilt command.Count = true
+is_unbuilt asked = false
 
-abbrev pub reads_unbuilt : Result Reading ℕ → Bool
-reads_unbuilt (Err number) = false
-reads_unbuilt (Ok script) = has_unbuilt script.commands
+-- a command of the script isn't built yet
+abbrev pub has_unbuilt : Result Reading ℕ → Bool
+has_unbuilt (Err number) = false
+has_unbuilt (Ok script) = list_any is_unbuilt script.commands
 
 -- A status may come in place of the due one: a fault, where the count of faults rose; want of memory; and what isn't
 -- built yet.
-abbrev pub IsExcused : List ℕ → SourceState → SourceState → SinkState → SinkState → Status → Type 0
-IsExcused bytes source_before source_now sink_before sink_now ReadFault = Rose source_before.faults source_now.faults
-IsExcused bytes source_before source_now sink_before sink_now WriteFault = Rose sink_before.faults sink_now.faults
-IsExcused bytes source_before source_now sink_before sink_now NoMemory = Unit {0}
-IsExcused bytes source_before source_now sink_before sink_now NotBuilt = IsTrue (reads_unbuilt (script_of bytes))
-IsExcused bytes source_before source_now sink_before sink_now status = ⊥
+abbrev pub IsExcused : List (List ℕ) → List ℕ → SourceState → SourceState → SinkState → SinkState → Status → Type 0
+IsExcused words bytes source_before source_now sink_before sink_now ReadFault =
+    IsTrue (asks_for_run words) × Rose source_before.faults source_now.faults
+IsExcused words bytes source_before source_now sink_before sink_now WriteFault = Rose sink_before.faults sink_now.faults
+IsExcused words bytes source_before source_now sink_before sink_now NoMemory = IsTrue (asks_for_run words)
+IsExcused words bytes source_before source_now sink_before sink_now NotBuilt =
+    (due_status words bytes ≡ Done) × IsTrue (has_unbuilt (script_of bytes))
+IsExcused words bytes source_before source_now sink_before sink_now status = ⊥
+
+-- The status is the due one, or it is excused.
+abbrev pub IsRight : List (List ℕ) → List ℕ → SourceState → SourceState → SinkState → SinkState → Status → Type 0
+IsRight words bytes source_before source_now sink_before sink_now status =
+    (status ≡ due_status words bytes) ⊎ IsExcused words bytes source_before source_now sink_before sink_now status
+
+-- The bytes are a valid script, which is built.
+abbrev pub IsServed : List (List ℕ) → List ℕ → Type 0
+IsServed words bytes = (due_status words bytes ≡ Done) × (has_unbuilt (script_of bytes) ≡ false)
+
+-- The replies are a run of the script that the bytes are.
+abbrev pub AreRepliesTo : List ℕ → List Reply → Type 0
+AreRepliesTo bytes replies =
+    (script : Reading) × (script_of bytes ≡ Ok script) × IsRun script.settings script.commands replies

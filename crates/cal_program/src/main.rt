@@ -7,6 +7,7 @@ mod memory;
 mod page;
 mod print;
 mod read;
+mod run_program;
 mod script;
 mod sink;
 mod source;

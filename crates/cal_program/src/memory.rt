@@ -27,9 +27,9 @@ impl<'a> Model for MemorySource<'a> {
     ghost Value = { MemorySourceState };
 
     ghost view = { λ s. record {
-        state = record { left = Some (drop s.given s.bytes.now); given = s.given; faults = s.faults };
-        calls = s.calls;
-        failing = s.failing.now;
+      state = record { left = Some (drop s.given s.bytes.now); given = s.given; faults = s.faults };
+      calls = s.calls;
+      failing = s.failing.now;
     } };
 
     ghost invariant = { λ s. s.given ≤ length s.bytes.now };
@@ -89,9 +89,9 @@ impl<'a> Model for MemorySink<'a> {
     ghost Value = { MemorySinkState };
 
     ghost view = { λ s. record {
-        state = record { written = Some s.bytes.items; faults = s.faults };
-        calls = s.calls;
-        failing = s.failing.now;
+      state = record { written = Some s.bytes.items; faults = s.faults };
+      calls = s.calls;
+      failing = s.failing.now;
     } };
 }
 

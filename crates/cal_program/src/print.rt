@@ -45,7 +45,10 @@ fn print_status<S: Sink>(page: &mut Page, sink: &mut S, status: Status, replies:
             page.text(sink, b"\n");
         }
         Status::ReadFault | Status::WriteFault | Status::NoMemory => {}
-        Status::Usage => page.text(sink, b"usage: run, make NUMBER ROUNDS, relay BUFFER COUNT\n"),
+        Status::Usage => page.text(
+            sink,
+            b"usage: run, make NUMBER ROUNDS, relay BUFFER COUNT\n",
+        ),
         Status::TooLong => page.text(sink, b"too long\n"),
         Status::NotBuilt => page.text(sink, b"not built\n"),
     }

@@ -8,4 +8,4 @@ returns g c from shown h =
     shows-same from c.number-5.new.self (g.S.Sink.state c.number-5.new.sink) _ _
     (count-parts shown (decimal n.active) (decimal n.mapped) (decimal n.current) (decimal n.size) (decimal n.buckets))
     (c.number-5.ensures from _ (c.text-4.ensures from _ (c.number-4.ensures from _ (c.text-3.ensures from _ (c.number-3.ensures from _
-                    (c.text-2.ensures from _ (c.number-2.ensures from _ (c.text.ensures from _ (c.number.ensures from shown h)))))))))
+    (c.text-2.ensures from _ (c.number-2.ensures from _ (c.text.ensures from _ (c.number.ensures from shown h)))))))))

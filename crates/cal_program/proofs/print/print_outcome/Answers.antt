@@ -1,4 +1,3 @@
-use Rattle.std.proofs.Common.{◌≡◌, true, false, sym, ◌∙◌}
 use Rattle.cal_program.proofs.PageLemmas.{whole-failed, whole-all}
 use Rattle.cal_program.proofs.print.print_outcome.Goals as goal
 

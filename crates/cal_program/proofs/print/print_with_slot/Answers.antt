@@ -8,4 +8,4 @@ returns g c from shown h =
     shows-same from c.number-3.new.self (g.S.Sink.state c.number-3.new.sink) _ _
     (slot-parts shown c.args.word.now (decimal slot.chunk) (decimal slot.segment) (decimal slot.place))
     (c.number-3.ensures from _ (c.text-3.ensures from _ (c.number-2.ensures from _ (c.text-2.ensures from _
-                (c.number.ensures from _ (c.text.ensures from shown h))))))
+    (c.number.ensures from _ (c.text.ensures from shown h))))))

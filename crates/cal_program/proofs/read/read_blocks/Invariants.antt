@@ -1,4 +1,4 @@
-use Rattle.std.proofs.Common.{◌≤◌, ◌-◌, ◌<◌, length, vec_len}
+use Rattle.std.proofs.Common.{◌≤◌, ◌-◌, vec_len}
 use Rattle.cal_program.specs.Streams.{Takes}
 use Rattle.cal_program.proofs.read.read_blocks.Given as goal
 

@@ -1,6 +1,6 @@
-use Rattle.std.proofs.Common.{◌≡◌, List, ℕ, Result, Some, sym, ap, subst, ◌∙◌}
+use Rattle.std.proofs.Common.{◌≡◌, List, ℕ, Some, sym, ap, ◌∙◌}
 use Rattle.cal_transport.specs.declared.command.Command.{Command}
-use Rattle.cal_program.specs.Script.{command_of, commands_of}
+use Rattle.cal_program.specs.Script.{command_of}
 use Rattle.cal_program.proofs.ScriptLemmas.{completes, completes-more}
 use Rattle.cal_program.proofs.script.commands.Goals as goal
 

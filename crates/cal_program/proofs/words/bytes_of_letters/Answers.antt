@@ -10,8 +10,8 @@ loop-place-preserved c =
     record {
       within = omega (arith, c.loop-place-test.true);
       rest = subst (λ (items : List ℕ). with_front items (bytes_of_letters (drop (place + 2) letters)) ≡ bytes_of_letters letters)
-      (sym c.in_ok-push.ensures.items)
-      (letters-more c.loop-place.bytes.items letters place c.in-Some.byte _ c.loop-place-test.true (sym c.in-Some.ensures) c.loop-place.invariant.rest);
+          (sym c.in_ok-push.ensures.items)
+          (letters-more c.loop-place.bytes.items letters place c.in-Some.byte _ c.loop-place-test.true (sym c.in-Some.ensures) c.loop-place.invariant.rest);
     }
 
 pub returns-then-place-letters : goal.returns-then-place-letters

@@ -1,4 +1,4 @@
-use Rattle.std.proofs.Common.{◌≡◌, ◌-◌, ◌+◌, ◌<◌, length, get_or, true, false, sym, ◌∙◌, arith}
+use Rattle.std.proofs.Common.{◌≡◌, get_or, true, sym, ◌∙◌, arith}
 use Rattle.std.specs.Char.{is_ascii_digit}
 use Rattle.std.proofs.lemmas.Int.Digits.{digits_value_more}
 use Rattle.cal_program.proofs.WordLemmas.{number_of-other, number_of-great, number_of-all, all_digits-more, digit_value-minus}
