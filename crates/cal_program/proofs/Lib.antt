@@ -4,3 +4,5 @@ pub mod WordLemmas
 pub mod PieceLemmas
 pub mod ScriptLemmas
 pub mod OutcomeLemmas
+pub mod SpellingLemmas
+pub mod SettingsLemmas
