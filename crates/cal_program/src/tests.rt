@@ -109,7 +109,7 @@ fn settings_that_cannot_be(rt: HostRuntime) -> Result<(), Fail> {
         cause: CreateCause::BadLayout,
     };
     assert_run(&rt, layout, bad_layout, b"create BadLayout\n")?;
-    let none = b"transport 8 8 0 static 1 1 off 1 1 1";
+    let none = b"transport 0 8 1 static 1 1 off 1 1 1";
     let size_is_zero = Status::NotCreated {
         cause: CreateCause::SizeIsZero,
     };
