@@ -1,8 +1,8 @@
 -- Pieces between separators, cut from the front.
-use Rattle.std.proofs.Common.{◌≡◌, ℕ, zero, suc, ◌+◌, ◌-◌, ◌<◌, List, [], ◌∷◌, length, get_or, take, drop, refl, sym, ap, ◌∙◌, arith}
+use Rattle.std.proofs.Common.{◌≡◌, ℕ, zero, suc, ◌+◌, ◌-◌, ◌<◌, List, [], ◌∷◌, ◌++◌, length, get_or, take, drop, append_assoc, refl, sym, ap, ◌∙◌, arith}
 use Rattle.std.proofs.lemmas.Bool.{eq-eqb, ne_eqb}
 use Rattle.std.proofs.Math.Seq.{take-length}
-use Rattle.std.proofs.lemmas.List.{length-drop}
+use Rattle.std.proofs.lemmas.List.{length-drop, take-append-drop}
 use Rattle.cal_program.specs.Words.{pieces, words, lines}
 
 -- no separator is before a place
@@ -28,7 +28,7 @@ lines-whole separator byte (next ∷ bytes) lacks =
     let rest = lines-whole separator next bytes (λ k lt. lacks (suc k) (omega arith)) in
     rw (ne_eqb byte separator (lacks 0 (omega arith)), rest) refl
 
-rest-of : (bytes : List ℕ) (n : ℕ) → take (length bytes - n) (drop n bytes) ≡ drop n bytes
+pub rest-of : (bytes : List ℕ) (n : ℕ) → take (length bytes - n) (drop n bytes) ≡ drop n bytes
 rest-of bytes n = rw (← length-drop n bytes) (take-length (drop n bytes))
 
 -- a piece, and those after the separator
@@ -44,3 +44,11 @@ words-last bytes place e lacks = words-whole 32 bytes (λ k lt. lacks k (omega a
 pub lines-last : (bytes : List ℕ) (place : ℕ) → 0 < length bytes → place ≡ length bytes → LacksBefore 10 bytes place → lines bytes ≡ bytes ∷ []
 lines-last [] place h e lacks = absurd (omega arith)
 lines-last (byte ∷ bytes) place h e lacks = lines-whole 10 byte bytes (λ k lt. lacks k (omega arith))
+
+-- a front is taken from what is left
+pub sent-more : (sent rest bytes : List ℕ) (count : ℕ) → sent ++ rest ≡ bytes → (sent ++ take count rest) ++ take (length rest - count) (drop count rest) ≡ bytes
+sent-more sent rest bytes count e =
+    append_assoc sent (take count rest) (take (length rest - count) (drop count rest))
+    ∙ ap (λ (t : List ℕ). sent ++ (take count rest ++ t)) (rest-of rest count)
+    ∙ ap (λ (t : List ℕ). sent ++ t) (take-append-drop count rest)
+    ∙ e

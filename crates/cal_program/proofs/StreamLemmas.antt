@@ -51,7 +51,7 @@ Appends-none : (written : Option (List ℕ)) → Appends written written []
 Appends-none None = tt
 Appends-none (Some xs) = sym (append-nil xs)
 
-Appends-then : (a b c : Option (List ℕ)) (x y : List ℕ) → Appends a b x → Appends b c y → Appends a c (x ++ y)
+pub Appends-then : (a b c : Option (List ℕ)) (x y : List ℕ) → Appends a b x → Appends b c y → Appends a c (x ++ y)
 Appends-then None b c x y p q = tt
 Appends-then (Some xs) None c x y p q = absurd p
 Appends-then (Some xs) (Some ys) None x y p q = absurd q

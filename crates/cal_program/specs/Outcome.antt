@@ -80,7 +80,8 @@ IsAnswer script Done replies =
 IsAnswer script (NotCreated cause) replies = (create_cause script.settings ≡ Some cause) × (replies ≡ [])
 IsAnswer script NotBuilt replies =
     (create_cause script.settings ≡ None) × ((answered : List Reply) × StopsUnbuilt script.settings script.commands answered) × (replies ≡ [])
-IsAnswer script NoMemory replies = StopsForMemory script.settings script.commands replies
+IsAnswer script NoMemory replies =
+    (create_cause script.settings ≡ None) × IsTrue (is_built script.settings) × StopsForMemory script.settings script.commands replies
 IsAnswer script other replies = ⊥
 
 -- These bytes were read to their end, and judged so.

@@ -41,7 +41,7 @@ impl Script {
         ensures { Parses bytes.now result }
     {
         let mut lines = Lines { rest: bytes };
-        let Some(first) = lines.next() else {
+        let Some(first) = lines.next_line() else {
             return Err(ParseError::BadLine { line: 1 });
         };
         let Some(settings) = settings(first) else {
@@ -83,7 +83,7 @@ impl<'a> Model for Lines<'a> {
 
 impl<'a> Lines<'a> {
     /// The next line, if there is one.
-    fn next(&mut self) -> Option<&'a [u8]>
+    fn next_line(&mut self) -> Option<&'a [u8]>
         ensures { MatchOption result ((self.old ≡ []) × (self.new ≡ [])) (λ line. self.old ≡ line.now ∷ self.new) }
     {
         let bytes = self.rest;
@@ -105,7 +105,7 @@ fn settings(line: &[u8]) -> Option<Settings>
     ensures { result ≡ settings_of line.now }
 {
     let mut words = Words::of(line);
-    let name = words.next()?;
+    let name = words.next_word()?;
     if !is_text(name, b"transport") {
         return None;
     }
@@ -115,17 +115,17 @@ fn settings(line: &[u8]) -> Option<Settings>
 fn settings_of_words(words: &mut Words<'_>) -> Option<Settings>
     ensures { result ≡ settings_of_words words.old }
 {
-    let size = words.next()?;
-    let alignment = words.next()?;
-    let count = words.next()?;
-    let strategy = words.next()?;
-    let buffer = words.next()?;
-    let borrow = words.next()?;
-    let overflow = words.next()?;
-    let samples = words.next()?;
-    let segments = words.next()?;
-    let channels = words.next()?;
-    if words.next().is_some() {
+    let size = words.next_word()?;
+    let alignment = words.next_word()?;
+    let count = words.next_word()?;
+    let strategy = words.next_word()?;
+    let buffer = words.next_word()?;
+    let borrow = words.next_word()?;
+    let overflow = words.next_word()?;
+    let samples = words.next_word()?;
+    let segments = words.next_word()?;
+    let channels = words.next_word()?;
+    if words.next_word().is_some() {
         return None;
     }
     Some(Settings {
@@ -185,7 +185,7 @@ fn commands(alloc: Global, lines: &mut Lines<'_>) -> Result<Vec<Command>, ParseE
     ensures { ParsesCommands lines.old result }
 {
     let mut commands = Vec::new(alloc);
-    while let Some(line) = lines.next() {
+    while let Some(line) = lines.next_line() {
         let Ok(found) = command(alloc, line) else {
             return Err(ParseError::NoMemory);
         };
@@ -206,7 +206,7 @@ fn command(alloc: Global, line: &[u8]) -> Result<Option<Command>, AllocError>
     ensures { IfOk result (λ found. found ≡ command_of line.now) }
 {
     let mut words = Words::of(line);
-    let Some(name) = words.next() else {
+    let Some(name) = words.next_word() else {
         return Ok(None);
     };
     if is_text(name, b"loan") {
@@ -242,9 +242,9 @@ fn command(alloc: Global, line: &[u8]) -> Result<Option<Command>, AllocError>
 fn loan(words: &mut Words<'_>) -> Option<Command>
     ensures { result ≡ loan_of words.old }
 {
-    let size = words.next()?;
-    let alignment = words.next()?;
-    if words.next().is_some() {
+    let size = words.next_word()?;
+    let alignment = words.next_word()?;
+    if words.next_word().is_some() {
         return None;
     }
     Some(Command::Loan {
@@ -256,16 +256,16 @@ fn loan(words: &mut Words<'_>) -> Option<Command>
 fn write(alloc: Global, words: &mut Words<'_>) -> Result<Option<Command>, AllocError>
     ensures { IfOk result (λ found. found ≡ write_of words.old) }
 {
-    let Some(chunk) = words.next() else {
+    let Some(chunk) = words.next_word() else {
         return Ok(None);
     };
-    let Some(at) = words.next() else {
+    let Some(at) = words.next_word() else {
         return Ok(None);
     };
-    let Some(bytes) = words.next() else {
+    let Some(bytes) = words.next_word() else {
         return Ok(None);
     };
-    if words.next().is_some() {
+    if words.next_word().is_some() {
         return Ok(None);
     }
     let Some(chunk) = number(chunk) else {
@@ -287,9 +287,9 @@ fn write(alloc: Global, words: &mut Words<'_>) -> Result<Option<Command>, AllocE
 fn send(words: &mut Words<'_>) -> Option<Command>
     ensures { result ≡ send_of words.old }
 {
-    let channel = words.next()?;
-    let chunk = words.next()?;
-    if words.next().is_some() {
+    let channel = words.next_word()?;
+    let chunk = words.next_word()?;
+    if words.next_word().is_some() {
         return None;
     }
     Some(Command::Send {
@@ -301,8 +301,8 @@ fn send(words: &mut Words<'_>) -> Option<Command>
 fn receive(words: &mut Words<'_>) -> Option<Command>
     ensures { result ≡ receive_of words.old }
 {
-    let channel = words.next()?;
-    if words.next().is_some() {
+    let channel = words.next_word()?;
+    if words.next_word().is_some() {
         return None;
     }
     Some(Command::Receive {
@@ -313,11 +313,11 @@ fn receive(words: &mut Words<'_>) -> Option<Command>
 fn read(words: &mut Words<'_>) -> Option<Command>
     ensures { result ≡ read_of words.old }
 {
-    let channel = words.next()?;
-    let chunk = words.next()?;
-    let at = words.next()?;
-    let length = words.next()?;
-    if words.next().is_some() {
+    let channel = words.next_word()?;
+    let chunk = words.next_word()?;
+    let at = words.next_word()?;
+    let length = words.next_word()?;
+    if words.next_word().is_some() {
         return None;
     }
     Some(Command::Read {
@@ -331,9 +331,9 @@ fn read(words: &mut Words<'_>) -> Option<Command>
 fn release(words: &mut Words<'_>) -> Option<Command>
     ensures { result ≡ release_of words.old }
 {
-    let channel = words.next()?;
-    let chunk = words.next()?;
-    if words.next().is_some() {
+    let channel = words.next_word()?;
+    let chunk = words.next_word()?;
+    if words.next_word().is_some() {
         return None;
     }
     Some(Command::Release {
@@ -345,8 +345,8 @@ fn release(words: &mut Words<'_>) -> Option<Command>
 fn reclaim(words: &mut Words<'_>) -> Option<Command>
     ensures { result ≡ reclaim_of words.old }
 {
-    let channel = words.next()?;
-    if words.next().is_some() {
+    let channel = words.next_word()?;
+    if words.next_word().is_some() {
         return None;
     }
     Some(Command::Reclaim {
@@ -357,8 +357,8 @@ fn reclaim(words: &mut Words<'_>) -> Option<Command>
 fn discard(words: &mut Words<'_>) -> Option<Command>
     ensures { result ≡ discard_of words.old }
 {
-    let chunk = words.next()?;
-    if words.next().is_some() {
+    let chunk = words.next_word()?;
+    if words.next_word().is_some() {
         return None;
     }
     Some(Command::Discard {
@@ -369,7 +369,7 @@ fn discard(words: &mut Words<'_>) -> Option<Command>
 fn count(words: &mut Words<'_>) -> Option<Command>
     ensures { result ≡ count_of words.old }
 {
-    if words.next().is_some() {
+    if words.next_word().is_some() {
         return None;
     }
     Some(Command::Count)

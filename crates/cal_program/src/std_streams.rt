@@ -1,6 +1,7 @@
 //! Standard input and standard output as a source and a sink. They tell no bytes.
 
-ghost use Rattle.std.specs.Prelude.{◌≡◌, None};
+ghost use Rattle.std.specs.Prelude.{◌≡◌, None, IsTrue};
+ghost use Rattle.std.specs.Io.KnownBytes.{Appends};
 ghost use Rattle.cal_program.specs.Streams.{new_source, new_sink};
 
 use crate::sink::Sink;
@@ -91,7 +92,9 @@ impl<W: Write> Sink for StdSink<W> {
 }
 
 /// Writes all bytes, and answers whether it could.
-fn write_all<W: Write>(writer: &mut W, bytes: &[u8]) -> bool {
+fn write_all<W: Write>(writer: &mut W, bytes: &[u8]) -> bool
+    ensures { IsTrue result → Appends (W.contents writer.old) (W.contents writer.new) bytes.now }
+{
     let mut rest = bytes;
     while !rest.is_empty() {
         match writer.write(rest) {

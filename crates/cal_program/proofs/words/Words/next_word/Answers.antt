@@ -1,6 +1,6 @@
 use Rattle.std.proofs.Common.{sym, ◌∙◌, arith}
 use Rattle.cal_program.proofs.PieceLemmas.{pieces-next, words-last}
-use Rattle.cal_program.proofs.words.Words.next.Goals as goal
+use Rattle.cal_program.proofs.words.Words.next_word.Goals as goal
 
 pub returns-then-place-bytes : goal.returns-then-place-bytes
 returns-then-place-bytes c =

@@ -1,7 +1,7 @@
 use Rattle.std.proofs.Common.{length, sym, ◌∙◌, arith}
 use Rattle.std.proofs.lemmas.Bool.{eqb-false}
 use Rattle.cal_program.proofs.PieceLemmas.{pieces-next, lines-last}
-use Rattle.cal_program.proofs.script.Lines.next.Goals as goal
+use Rattle.cal_program.proofs.script.Lines.next_line.Goals as goal
 
 pub returns-then-place-bytes : goal.returns-then-place-bytes
 returns-then-place-bytes c =
