@@ -1,0 +1,8 @@
+pub mod StreamLemmas
+pub mod PageLemmas
+pub mod WordLemmas
+pub mod PieceLemmas
+pub mod ScriptLemmas
+pub mod OutcomeLemmas
+pub mod SpellingLemmas
+pub mod SettingsLemmas

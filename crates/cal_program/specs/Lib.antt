@@ -1,0 +1,10 @@
+pub mod Words
+pub mod Script
+pub mod Parsing
+pub mod Spelling
+pub mod ReplyText
+pub mod Streams
+pub mod ReadAll
+pub mod Printing
+pub mod Outcome
+pub mod Examples

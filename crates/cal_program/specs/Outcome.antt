@@ -1,0 +1,148 @@
+-- What a run of the program owes: the status, the replies that it hands out, and the text that it writes.
+use Rattle.std.specs.Prelude.{ℕ, ◌≡◌, Bool, true, false, nat_lt, IsTrue, if◌then◌else◌, ◌⊎◌, List, [], ◌∷◌, ◌++◌, length, Option, Some, None, Result, Ok, Err, decimal, codes, bytes_eq}
+use Rattle.std.specs.List.{list_any}
+use Rattle.cal_transport.specs.declared.settings.CreateCause.{CreateCause}
+use Rattle.cal_transport.specs.declared.settings.CreateCause.TheVariants.{BadLayout, SizeOutOfRange, SizeIsZero, InternalError}
+use Rattle.cal_transport.specs.declared.command.Command.{Command}
+use Rattle.cal_transport.specs.declared.command.Command.TheVariants as command
+use Rattle.cal_transport.specs.declared.reply.Reply.{Reply}
+use Rattle.cal_transport.specs.Settings.{create_cause}
+use Rattle.cal_transport.specs.Run.{IsRun, StopsForMemory, StopsUnbuilt, is_built}
+use Rattle.cal_program.specs.declared.status.Status.{Status}
+use Rattle.cal_program.specs.declared.status.Status.TheVariants.{Done, BadScript, NotCreated, ReadFault, WriteFault, NoMemory, Usage, TooLong, NotBuilt}
+use Rattle.cal_program.specs.Script.{Reading, script_of}
+use Rattle.cal_program.specs.ReplyText.{line, reply_lines}
+use Rattle.cal_program.specs.Streams.{SourceState, SinkState, Rose, PutsAll, FailsWithin}
+use Rattle.cal_program.specs.ReadAll.{script_limit, ReadsAll, ReadsSome, ReadsTooMany}
+
+-- ---- words
+
+-- the command line asks for a run: the one word `run`
+abbrev pub asks_for_run : List (List ℕ) → Bool
+asks_for_run [] = false
+asks_for_run (word ∷ []) = bytes_eq word (codes "run")
+asks_for_run (word ∷ next ∷ words) = false
+
+-- ---- text
+
+abbrev pub cause_name : CreateCause → List ℕ
+cause_name BadLayout = codes "BadLayout"
+cause_name SizeOutOfRange = codes "SizeOutOfRange"
+cause_name SizeIsZero = codes "SizeIsZero"
+cause_name InternalError = codes "InternalError"
+
+-- the exit status
+abbrev pub status_code : Status → ℕ
+status_code Done = 0
+status_code (BadScript number) = 1
+status_code (NotCreated cause) = 2
+status_code ReadFault = 3
+status_code WriteFault = 4
+status_code NoMemory = 5
+status_code Usage = 6
+status_code TooLong = 7
+status_code NotBuilt = 8
+
+-- what a status has written, with the replies that it hands out
+abbrev pub status_text : Status → List Reply → List ℕ
+status_text Done replies = reply_lines replies
+status_text (BadScript number) replies = line (codes "line " ++ decimal number)
+status_text (NotCreated cause) replies = line (codes "create " ++ cause_name cause)
+status_text ReadFault replies = []
+status_text WriteFault replies = []
+status_text NoMemory replies = []
+status_text Usage replies = line (codes "usage: run, make NUMBER ROUNDS, relay BUFFER COUNT")
+status_text TooLong replies = line (codes "too long")
+status_text NotBuilt replies = line (codes "not built")
+
+-- ---- the status that words and bytes are due, where nothing fails
+
+-- why no transport can be made with these settings; else whether such transports are built
+abbrev pub settings_status : Option CreateCause → Bool → Status
+settings_status (Some cause) built = NotCreated cause
+settings_status None true = Done
+settings_status None false = NotBuilt
+
+abbrev pub script_status : Result Reading ℕ → Status
+script_status (Err number) = BadScript number
+script_status (Ok script) = settings_status (create_cause script.settings) (is_built script.settings)
+
+abbrev pub due_status : List (List ℕ) → List ℕ → Status
+due_status words bytes =
+    if asks_for_run words then (if nat_lt script_limit (length bytes) then TooLong else script_status (script_of bytes)) else Usage
+
+-- ---- what is due for each status
+
+-- The transport answered a script so.
+abbrev pub IsAnswer : Reading → Status → List Reply → Type 0
+IsAnswer script Done replies =
+    (create_cause script.settings ≡ None) × IsTrue (is_built script.settings) × IsRun script.settings script.commands replies
+IsAnswer script (NotCreated cause) replies = (create_cause script.settings ≡ Some cause) × (replies ≡ [])
+IsAnswer script NotBuilt replies =
+    (create_cause script.settings ≡ None) × ((answered : List Reply) × StopsUnbuilt script.settings script.commands answered) × (replies ≡ [])
+IsAnswer script NoMemory replies =
+    (create_cause script.settings ≡ None) × IsTrue (is_built script.settings) × StopsForMemory script.settings script.commands replies
+IsAnswer script other replies = ⊥
+
+-- These bytes were read to their end, and judged so.
+abbrev pub IsVerdict : List ℕ → Status → List Reply → Type 0
+IsVerdict bytes (BadScript number) replies = (script_of bytes ≡ Err number) × (replies ≡ [])
+IsVerdict bytes NoMemory [] = Unit {0}
+IsVerdict bytes status replies = (script : Reading) × (script_of bytes ≡ Ok script) × IsAnswer script status replies
+
+-- This status is due, with these replies: before anything is written.
+abbrev pub IsDue : List (List ℕ) → SourceState → SourceState → Status → List Reply → Type 0
+IsDue words before now Usage replies = (asks_for_run words ≡ false) × (now ≡ before) × (replies ≡ [])
+IsDue words before now ReadFault replies =
+    IsTrue (asks_for_run words) × ReadsSome before now × Rose before.faults now.faults × (replies ≡ [])
+IsDue words before now TooLong replies = IsTrue (asks_for_run words) × ReadsTooMany before now × (replies ≡ [])
+IsDue words before now NoMemory [] = IsTrue (asks_for_run words) × ReadsSome before now
+IsDue words before now status replies =
+    IsTrue (asks_for_run words) × ((bytes : List ℕ) × ReadsAll before now bytes × IsVerdict bytes status replies)
+
+-- The text of the status that was due was put into the sink, and that status stays; or the sink failed within it.
+abbrev pub IsWritten : SinkState → SinkState → List ℕ → Status → Status → Type 0
+IsWritten before now text due WriteFault = FailsWithin before now text
+IsWritten before now text due status = PutsAll before now text × (status ≡ due)
+
+-- The program ended so: some status was due, and its text was written.
+abbrev pub EndsDue : List (List ℕ) → SourceState → SourceState → SinkState → SinkState → Status → List Reply → Type 0
+EndsDue words source_before source_now sink_before sink_now status replies =
+    (due : Status) × IsDue words source_before source_now due replies × IsWritten sink_before sink_now (status_text due replies) due status
+
+-- ---- when each status comes, where the source tells its bytes
+
+-- the command isn't built yet
+abbrev pub is_unbuilt : Command → Bool
+is_unbuilt command.Count = true
+is_unbuilt asked = false
+
+-- a command of the script isn't built yet
+abbrev pub has_unbuilt : Result Reading ℕ → Bool
+has_unbuilt (Err number) = false
+has_unbuilt (Ok script) = list_any is_unbuilt script.commands
+
+-- A status may come in place of the due one: a fault, where the count of faults rose; want of memory; and what isn't
+-- built yet.
+abbrev pub IsExcused : List (List ℕ) → List ℕ → SourceState → SourceState → SinkState → SinkState → Status → Type 0
+IsExcused words bytes source_before source_now sink_before sink_now ReadFault =
+    IsTrue (asks_for_run words) × Rose source_before.faults source_now.faults
+IsExcused words bytes source_before source_now sink_before sink_now WriteFault = Rose sink_before.faults sink_now.faults
+IsExcused words bytes source_before source_now sink_before sink_now NoMemory = IsTrue (asks_for_run words)
+IsExcused words bytes source_before source_now sink_before sink_now NotBuilt =
+    (due_status words bytes ≡ Done) × IsTrue (has_unbuilt (script_of bytes))
+IsExcused words bytes source_before source_now sink_before sink_now status = ⊥
+
+-- The status is the due one, or it is excused.
+abbrev pub IsRight : List (List ℕ) → List ℕ → SourceState → SourceState → SinkState → SinkState → Status → Type 0
+IsRight words bytes source_before source_now sink_before sink_now status =
+    (status ≡ due_status words bytes) ⊎ IsExcused words bytes source_before source_now sink_before sink_now status
+
+-- The bytes are a valid script, which is built.
+abbrev pub IsServed : List (List ℕ) → List ℕ → Type 0
+IsServed words bytes = (due_status words bytes ≡ Done) × (has_unbuilt (script_of bytes) ≡ false)
+
+-- The replies are a run of the script that the bytes are.
+abbrev pub AreRepliesTo : List ℕ → List Reply → Type 0
+AreRepliesTo bytes replies =
+    (script : Reading) × (script_of bytes ≡ Ok script) × IsRun script.settings script.commands replies

@@ -1,0 +1,70 @@
+//! Runs scripts over a transport: `cal_program run` reads a script from standard input and writes the replies to its
+//! commands to standard output.
+#![tactic(auto)]
+
+mod clean;
+mod examples;
+mod help;
+mod laws;
+mod memory;
+mod page;
+mod print;
+mod read;
+mod run_program;
+mod script;
+mod sink;
+mod source;
+mod status;
+mod std_streams;
+#[cfg(test)]
+mod tests;
+mod words;
+
+use help::{HELP, VERSION};
+use run_program::run_program;
+use sink::Sink;
+use status::Status;
+use std::process::ExitCode;
+use std::rt::Env;
+use std::{env, io};
+use std_streams::{StdSink, StdSource};
+
+fn main(rt: HostRuntime) -> ExitCode {
+    let words = match words_of(&rt) {
+        Ok(words) => words,
+        Err(error) if error.kind() == io::ErrorKind::OutOfMemory => {
+            return ExitCode::from(Status::NoMemory.code());
+        }
+        // No word is as faulty as one that isn't text.
+        Err(_) => Vec::new(rt.alloc()),
+    };
+    let mut sink = StdSink::new(rt.stdout());
+    if let Some(text) = information(words.as_slice()) {
+        return match sink.put(text.as_bytes()) {
+            Ok(()) => ExitCode::SUCCESS,
+            Err(_) => ExitCode::from(Status::WriteFault.code()),
+        };
+    }
+    let mut source = StdSource::new(rt.stdin());
+    let outcome = run_program(rt.alloc(), words.as_slice(), &mut source, &mut sink);
+    ExitCode::from(outcome.status.code())
+}
+
+/// The words of the command line after the program's name.
+fn words_of<R: Env + AllocGlobal>(rt: &R) -> io::Result<Vec<String>> {
+    let mut words = env::args(rt)?;
+    let _ = words.next();
+    Ok(words.collect(rt.alloc())?)
+}
+
+/// The text of the one word that asks for information.
+fn information(words: &[String]) -> Option<&'static str> {
+    if words.len() != 1 {
+        return None;
+    }
+    match words[0].as_str() {
+        "--help" => Some(HELP),
+        "--version" => Some(VERSION),
+        _ => None,
+    }
+}

@@ -1,0 +1,134 @@
+//! A page of text: what is printed gathers in it, and each full page is put into a sink. It takes no memory.
+
+ghost use Rattle.std.specs.Prelude.{◌≡◌, ◌<◌, ◌∷◌, [], decimal, false};
+ghost use Rattle.cal_program.specs.Printing.{Follows};
+ghost use Rattle.cal_program.specs.Spelling.{hex, hex_letter, hex_pair};
+
+use crate::sink::Sink;
+use std::marker::Model;
+
+/// How many bytes a page has.
+const PAGE_SIZE: usize = 4096;
+
+/// The bytes that aren't put yet. Once the sink failed, it is called no more.
+#[derive(Drop)]
+pub struct Page {
+    bytes: [u8; PAGE_SIZE],
+    held: usize,
+    failed: bool,
+}
+
+impl Model for Page {
+    ghost use Rattle.std.specs.Prelude.{◌≡◌, ◌≤◌, length, take};
+    ghost use Rattle.cal_program.specs.Printing.{PageState};
+
+    ghost Value = { PageState };
+
+    ghost view = { λ p. record { held = take p.held p.bytes; failed = p.failed } };
+
+    ghost invariant = { λ p. (p.held ≤ 4096) × (length p.bytes ≡ 4096) };
+}
+
+impl Page {
+    /// An empty page.
+    pub fn new() -> Page
+        ensures { result ≡ record { held = []; failed = false } }
+    {
+        Page {
+            bytes: [0; PAGE_SIZE],
+            held: 0,
+            failed: false,
+        }
+    }
+
+    /// Whether the sink failed.
+    pub fn has_failed(&self) -> bool
+        ensures { result ≡ self.now.failed }
+    {
+        self.failed
+    }
+
+    /// Puts what the page holds. The sink isn't called where it holds nothing.
+    pub fn flush<S: Sink>(&mut self, sink: &mut S)
+        ensures text { Follows self.old (S.state sink.old) self.new (S.state sink.new) [] }
+        ensures empty { self.new.held ≡ [] }
+    {
+        if self.held == 0 {
+            return;
+        }
+        if self.failed {
+            self.held = 0;
+            return;
+        }
+        let Ok(()) = sink.put(&self.bytes[..self.held]) else {
+            self.failed = true;
+            self.held = 0;
+            return;
+        };
+        self.held = 0;
+    }
+
+    /// Prints a byte.
+    pub fn byte<S: Sink>(&mut self, sink: &mut S, byte: u8)
+        ensures { Follows self.old (S.state sink.old) self.new (S.state sink.new) (byte ∷ []) }
+    {
+        if self.held == PAGE_SIZE {
+            self.flush(sink);
+        }
+        self.bytes[self.held] = byte;
+        self.held += 1;
+    }
+
+    /// Prints bytes as they are.
+    pub fn text<S: Sink>(&mut self, sink: &mut S, text: &[u8])
+        ensures { Follows self.old (S.state sink.old) self.new (S.state sink.new) text.now }
+    {
+        for byte in text {
+            self.byte(sink, *byte);
+        }
+    }
+
+    /// Prints a number in decimal.
+    pub fn number<S: Sink>(&mut self, sink: &mut S, number: usize)
+        ensures { Follows self.old (S.state sink.old) self.new (S.state sink.new) (decimal number) }
+    {
+        if number < 10 {
+            self.byte(sink, b'0' + number as u8);
+            return;
+        }
+        self.number(sink, number / 10);
+        self.byte(sink, b'0' + (number % 10) as u8);
+    }
+
+    /// Prints bytes in hexadecimal, and a dash for no bytes.
+    pub fn hex<S: Sink>(&mut self, sink: &mut S, bytes: &[u8])
+        ensures { Follows self.old (S.state sink.old) self.new (S.state sink.new) (hex bytes.now) }
+    {
+        if bytes.is_empty() {
+            self.byte(sink, b'-');
+            return;
+        }
+        for byte in bytes {
+            self.hex_pair(sink, *byte);
+        }
+    }
+
+    fn hex_pair<S: Sink>(&mut self, sink: &mut S, byte: u8)
+        ensures { Follows self.old (S.state sink.old) self.new (S.state sink.new) (hex_pair byte) }
+    {
+        self.byte(sink, hex_letter(byte / 16));
+        self.byte(sink, hex_letter(byte % 16));
+    }
+}
+
+/// The letter of half a byte.
+fn hex_letter(half: u8) -> u8
+    requires { half < 16 }
+    ensures { result ≡ hex_letter half }
+{
+    if half < 10 {
+        b'0' + half
+    } else {
+        b'a' + (half - 10)
+    }
+}

@@ -1,0 +1,153 @@
+//! A run of the program: what the words ask for, over a source and a sink.
+
+ghost use Rattle.std.specs.Prelude.{◌≡◌, ◌⊎◌, [], map, string_bytes, IfSome};
+ghost use Rattle.cal_program.specs.Outcome.{asks_for_run, IsAnswer, IsVerdict, IsDue, EndsDue, IsRight, IsServed, AreRepliesTo};
+ghost use Rattle.cal_program.specs.ReplyText.{reply_lines};
+ghost use Rattle.cal_program.specs.Streams.{Rose, PutsAll};
+
+use crate::print::print_outcome;
+use crate::read::{ReadError, read_script};
+use crate::script::{ParseError, Script};
+use crate::sink::Sink;
+use crate::source::Source;
+use crate::status::{Outcome, Status};
+use crate::words::is_text;
+use cal_alloc::AllocationStrategy;
+use cal_transport::{Replies, RunError, Settings, run_transport};
+use std::alloc::Global;
+
+/// Runs the program. With the one word `run` it reads the source to its end, runs the script that it has, and puts the
+/// replies into the sink. Where it doesn't come so far, the status says why, and its text is put into the sink.
+pub fn run_program<R: Source, W: Sink>(
+    alloc: Global,
+    words: &[String],
+    source: &mut R,
+    sink: &mut W,
+) -> Outcome
+    ensures outcome { EndsDue (map string_bytes words.now) (R.state source.old) (R.state source.new)
+        (W.state sink.old) (W.state sink.new) result.status result.replies.items }
+
+    // A run that is done wrote the text of its replies, and they are a run of the ledger.
+    ensures done { result.status ≡ Status.Done → IfSome (R.state source.old).left (λ bytes. AreRepliesTo bytes result.replies.items) }
+    ensures written { result.status ≡ Status.Done → PutsAll (W.state sink.old) (W.state sink.new) (reply_lines result.replies.items) }
+
+    // Each status comes exactly where it is due, but for faults and want of memory.
+    ensures exact { IfSome (R.state source.old).left (λ bytes. IsRight (map string_bytes words.now) bytes
+        (R.state source.old) (R.state source.new) (W.state sink.old) (W.state sink.new) result.status) }
+
+    // A valid script is done, unless memory runs out or the source or the sink fails.
+    ensures complete { IfSome (R.state source.old).left (λ bytes. IsServed (map string_bytes words.now) bytes
+        → ¬ Rose (R.state source.old).faults (R.state source.new).faults
+        → ¬ Rose (W.state sink.old).faults (W.state sink.new).faults
+        → (result.status ≡ Status.Done) ⊎ (result.status ≡ Status.NoMemory)) }
+{
+    ended(alloc, words, source, sink)
+}
+
+/// The same, by what is due and written.
+fn ended<R: Source, W: Sink>(
+    alloc: Global,
+    words: &[String],
+    source: &mut R,
+    sink: &mut W,
+) -> Outcome
+    ensures { EndsDue (map string_bytes words.now) (R.state source.old) (R.state source.new)
+        (W.state sink.old) (W.state sink.new) result.status result.replies.items }
+{
+    let due = due_outcome(alloc, words, source);
+    if print_outcome(&due, sink).is_err() {
+        return Outcome {
+            status: Status::WriteFault,
+            replies: due.replies,
+        };
+    }
+    due
+}
+
+/// What is due to be written.
+fn due_outcome<R: Source>(alloc: Global, words: &[String], source: &mut R) -> Outcome
+    ensures { IsDue (map string_bytes words.now) (R.state source.old) (R.state source.new) result.status result.replies.items }
+{
+    if !asks_for_run(words) {
+        return without_replies(alloc, Status::Usage);
+    }
+    match read_script(alloc, source) {
+        Ok(bytes) => verdict(alloc, bytes.as_slice()),
+        Err(ReadError::Fault) => without_replies(alloc, Status::ReadFault),
+        Err(ReadError::TooLong) => without_replies(alloc, Status::TooLong),
+        Err(ReadError::NoMemory) => without_replies(alloc, Status::NoMemory),
+    }
+}
+
+/// Whether the words are the one word `run`.
+fn asks_for_run(words: &[String]) -> bool
+    ensures { result ≡ asks_for_run (map string_bytes words.now) }
+{
+    if words.len() != 1 {
+        return false;
+    }
+    is_text(words[0].as_bytes(), b"run")
+}
+
+/// What is due for these bytes.
+fn verdict(alloc: Global, bytes: &[u8]) -> Outcome
+    ensures { IsVerdict bytes.now result.status result.replies.items }
+{
+    match Script::parse(alloc, bytes) {
+        Ok(script) => answer(alloc, &script),
+        Err(ParseError::BadLine { line }) => without_replies(alloc, Status::BadScript { line }),
+        Err(ParseError::NoMemory) => without_replies(alloc, Status::NoMemory),
+    }
+}
+
+/// What is due for a script.
+fn answer(alloc: Global, script: &Script) -> Outcome
+    ensures { IsAnswer script.now result.status result.replies.items }
+{
+    match run_transport(alloc, script.settings(), script.commands()) {
+        Ok(replies) => Outcome {
+            status: Status::Done,
+            replies,
+        },
+        Err(RunError::NoMemory(replies)) => Outcome {
+            status: Status::NoMemory,
+            replies,
+        },
+        Err(RunError::Create(cause)) => without_replies(alloc, Status::NotCreated { cause }),
+        Err(RunError::NotBuilt(_)) => without_replies(alloc, Status::NotBuilt),
+    }
+}
+
+fn without_replies(alloc: Global, status: Status) -> Outcome
+    ensures status { result.status ≡ status }
+    ensures none { result.replies.items ≡ [] }
+{
+    Outcome {
+        status,
+        replies: no_replies(alloc),
+    }
+}
+
+/// No reply, without taking memory: the run of a transport that isn't built has none.
+fn no_replies(alloc: Global) -> Replies
+    ensures { result.items ≡ [] }
+{
+    let growing = Settings {
+        size: 1,
+        alignment: 1,
+        count: 1,
+        strategy: AllocationStrategy::BestFit,
+        buffer: 1,
+        borrow: 1,
+        overflow: false,
+        samples: 1,
+        segments: 1,
+        channels: 1,
+    };
+    match run_transport(alloc, &growing, &[]) {
+        Ok(replies) => replies,
+        Err(RunError::NoMemory(replies)) => replies,
+        Err(RunError::NotBuilt(replies)) => replies,
+        Err(RunError::Create(_)) => unreachable!(),
+    }
+}

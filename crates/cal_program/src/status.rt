@@ -1,0 +1,57 @@
+//! How a run of the program ends.
+
+ghost use Rattle.std.specs.Prelude.{◌≡◌};
+ghost use Rattle.cal_program.specs.Outcome.{status_code};
+
+use cal_transport::{CreateCause, Replies};
+
+/// How a run of the program ended.
+#[derive(Clone, Copy, Debug, PartialEq, Eq)]
+pub enum Status {
+    /// The replies were written.
+    Done,
+    /// The source's bytes aren't a script: a line, counted from one, is the first that is bad.
+    BadScript { line: usize },
+    /// No transport can be made with the script's settings.
+    NotCreated { cause: CreateCause },
+    /// The source failed.
+    ReadFault,
+    /// The sink failed.
+    WriteFault,
+    /// Memory ran out.
+    NoMemory,
+    /// The words of the command line have no form.
+    Usage,
+    /// The source has more bytes than a script may have.
+    TooLong,
+    /// The script's settings, or one of its commands, aren't served yet.
+    NotBuilt,
+}
+
+impl Status {
+    /// The exit status.
+    pub fn code(self) -> u8
+        ensures { result ≡ status_code self }
+    {
+        match self {
+            Status::Done => 0,
+            Status::BadScript { line: _ } => 1,
+            Status::NotCreated { cause: _ } => 2,
+            Status::ReadFault => 3,
+            Status::WriteFault => 4,
+            Status::NoMemory => 5,
+            Status::Usage => 6,
+            Status::TooLong => 7,
+            Status::NotBuilt => 8,
+        }
+    }
+}
+
+/// What a run of the program leaves.
+#[derive(Debug, Drop)]
+pub struct Outcome {
+    pub status: Status,
+    /// The replies of the whole run, where that is done or its replies were due to be written; the replies before memory
+    /// ran out; else none.
+    pub replies: Replies,
+}

@@ -1,0 +1,230 @@
+//! Runs of the program over streams in memory, and the text that it writes.
+
+ghost use Rattle.std.specs.Prelude.{◌≡◌, ◌<◌, ◌≤◌, length, take, IfOk, OnErr};
+ghost use Rattle.std.specs.Io.KnownBytes.{IsAtEnd};
+ghost use Rattle.cal_program.specs.Streams.{Takes, TakesNothing};
+
+use crate::memory::{MemorySink, MemorySource};
+use crate::read::SCRIPT_LIMIT;
+use crate::run_program::run_program;
+use crate::sink::Sink;
+use crate::source::{Failed, Source};
+use crate::status::Status;
+use crate::std_streams::{StdSink, StdSource};
+use cal_transport::CreateCause;
+use std::alloc::{AllocError, Global};
+use std::io;
+use std::process::Abort;
+use std::test::Fail;
+
+/// One chunk, from its loan to its bytes on the other side.
+const ONE_CHUNK: &[u8] =
+    b"transport 8 8 1 static 1 1 off 1 1 1\nloan 8 8\nwrite 1 0 7b00\nsend 0 1\nreceive 0\nread 0 1 0 2";
+
+/// The replies to it.
+const ONE_CHUNK_LINES: &[u8] =
+    b"loaned 1 0:0\nwritten\nsent\nreceived 1 0:0\nbytes 7b00\ntransit 0 1 0:0\n";
+
+/// After how many bytes of it a line is whole, with and without its line feed. Half of the bytes to write are as good.
+const WHOLE: [usize; 12] = [36, 37, 45, 46, 58, 60, 61, 69, 70, 79, 80, 92];
+
+/// A source that gives one byte a call.
+#[derive(Drop)]
+struct OneByOne<'a>(MemorySource<'a>);
+
+impl<'a> Source for OneByOne<'a> {
+    ghost state = { λ s. s.0.state };
+
+    fn take(&mut self, into: &mut [u8]) -> Result<usize, Failed> {
+        self.0.take(&mut into[..1])
+    }
+}
+
+/// The words of a command line, which are one space apart.
+fn words_of(alloc: Global, line: &str) -> Result<Vec<String>, AllocError> {
+    let mut words = Vec::new(alloc);
+    for word in line.split(' ') {
+        words.push(String::from_str(alloc, word)?)?;
+    }
+    Ok(words)
+}
+
+/// Runs a script, and asserts with which status it ends and what is written.
+fn assert_run(
+    rt: &(impl Abort + AllocGlobal),
+    script: &[u8],
+    status: Status,
+    text: &[u8],
+) -> Result<(), AllocError> {
+    let words = words_of(rt.alloc(), "run")?;
+    let mut source = MemorySource::new(script, &[]);
+    let mut sink = MemorySink::new(rt.alloc(), &[]);
+    let outcome = run_program(rt.alloc(), words.as_slice(), &mut source, &mut sink);
+    assert_eq!(rt; outcome.status, status);
+    assert_eq!(rt; sink.as_slice(), text);
+    Ok(())
+}
+
+#[test]
+fn one_chunk(rt: HostRuntime) -> Result<(), Fail> {
+    assert_run(&rt, ONE_CHUNK, Status::Done, ONE_CHUNK_LINES)?;
+    assert_run(&rt, &ONE_CHUNK[..36], Status::Done, b"")?;
+    Ok(())
+}
+
+#[test]
+fn bad_lines(rt: HostRuntime) -> Result<(), Fail> {
+    let third = b"transport 8 8 1 static 1 1 off 1 1 1\ncount\nbogus";
+    assert_run(&rt, third, Status::BadScript { line: 3 }, b"line 3\n")?;
+    assert_run(&rt, b"", Status::BadScript { line: 1 }, b"line 1\n")?;
+    Ok(())
+}
+
+#[test]
+fn scripts_that_are_cut(rt: HostRuntime) -> Result<(), Fail> {
+    let words = words_of(rt.alloc(), "run")?;
+    let mut line = 1;
+    for cut in 0..ONE_CHUNK.len() {
+        let mut source = MemorySource::new(&ONE_CHUNK[..cut], &[]);
+        let mut sink = MemorySink::new(rt.alloc(), &[]);
+        let outcome = run_program(rt.alloc(), words.as_slice(), &mut source, &mut sink);
+        let is_whole = WHOLE.contains(&cut);
+        let due = if is_whole {
+            Status::Done
+        } else {
+            Status::BadScript { line }
+        };
+        assert_eq!(rt; outcome.status, due, "after {cut} bytes");
+        if ONE_CHUNK[cut] == b'\n' && line < 6 {
+            line += 1;
+        }
+    }
+    Ok(())
+}
+
+#[test]
+fn settings_that_cannot_be(rt: HostRuntime) -> Result<(), Fail> {
+    let layout = b"transport 8 3 1 static 1 1 off 1 1 1";
+    let bad_layout = Status::NotCreated {
+        cause: CreateCause::BadLayout,
+    };
+    assert_run(&rt, layout, bad_layout, b"create BadLayout\n")?;
+    let none = b"transport 0 8 1 static 1 1 off 1 1 1";
+    let size_is_zero = Status::NotCreated {
+        cause: CreateCause::SizeIsZero,
+    };
+    assert_run(&rt, none, size_is_zero, b"create SizeIsZero\n")?;
+    let alignment = b"transport 8 8192 1 static 1 1 off 1 1 1";
+    let internal = Status::NotCreated {
+        cause: CreateCause::InternalError,
+    };
+    assert_run(&rt, alignment, internal, b"create InternalError\n")?;
+    let out_of_range = Status::NotCreated {
+        cause: CreateCause::SizeOutOfRange,
+    };
+    let count = b"transport 8 8 4294967296 static 1 1 off 1 1 1";
+    assert_run(&rt, count, out_of_range, b"create SizeOutOfRange\n")?;
+    let buffer = b"transport 8 8 1 static 9223372036854775807 1 off 1 1 1";
+    assert_run(&rt, buffer, out_of_range, b"create SizeOutOfRange\n")?;
+    Ok(())
+}
+
+#[test]
+fn settings_that_are_not_built(rt: HostRuntime) -> Result<(), Fail> {
+    let growing = b"transport 8 8 1 best 1 1 off 1 1 1";
+    assert_run(&rt, growing, Status::NotBuilt, b"not built\n")?;
+    Ok(())
+}
+
+#[test]
+fn other_words(rt: HostRuntime) -> Result<(), Fail> {
+    let words = words_of(rt.alloc(), "run now")?;
+    let mut source = MemorySource::new(ONE_CHUNK, &[]);
+    let mut sink = MemorySink::new(rt.alloc(), &[]);
+    let outcome = run_program(rt.alloc(), words.as_slice(), &mut source, &mut sink);
+    assert_eq!(rt; outcome.status, Status::Usage);
+    assert_eq!(rt;
+        sink.as_slice(),
+        b"usage: run, make NUMBER ROUNDS, relay BUFFER COUNT\n".as_slice()
+    );
+    Ok(())
+}
+
+#[test]
+fn faults(rt: HostRuntime) -> Result<(), Fail> {
+    let words = words_of(rt.alloc(), "run")?;
+    let mut source = MemorySource::new(ONE_CHUNK, &[0]);
+    let mut sink = MemorySink::new(rt.alloc(), &[]);
+    let outcome = run_program(rt.alloc(), words.as_slice(), &mut source, &mut sink);
+    assert_eq!(rt; outcome.status, Status::ReadFault);
+    assert_eq!(rt; sink.as_slice(), b"".as_slice());
+
+    let mut source = MemorySource::new(ONE_CHUNK, &[]);
+    let mut sink = MemorySink::new(rt.alloc(), &[0]);
+    let outcome = run_program(rt.alloc(), words.as_slice(), &mut source, &mut sink);
+    assert_eq!(rt; outcome.status, Status::WriteFault);
+    assert_eq!(rt; outcome.replies.len(), 6);
+    assert_eq!(rt; sink.as_slice(), b"".as_slice());
+    Ok(())
+}
+
+#[test]
+fn any_pieces(rt: HostRuntime) -> Result<(), Fail> {
+    let words = words_of(rt.alloc(), "run")?;
+    let mut source = OneByOne(MemorySource::new(ONE_CHUNK, &[]));
+    let mut sink = MemorySink::new(rt.alloc(), &[]);
+    let outcome = run_program(rt.alloc(), words.as_slice(), &mut source, &mut sink);
+    assert_eq!(rt; outcome.status, Status::Done);
+    assert_eq!(rt; sink.as_slice(), ONE_CHUNK_LINES);
+    Ok(())
+}
+
+#[test]
+fn long_scripts(rt: HostRuntime) -> Result<(), Fail> {
+    let bytes = vec![in rt.alloc(); b'\n'; SCRIPT_LIMIT + 1]?;
+    assert_run(&rt, bytes.as_slice(), Status::TooLong, b"too long\n")?;
+    let bytes = vec![in rt.alloc(); b'\n'; SCRIPT_LIMIT]?;
+    assert_run(
+        &rt,
+        bytes.as_slice(),
+        Status::BadScript { line: 1 },
+        b"line 1\n",
+    )?;
+    Ok(())
+}
+
+/// A reader and a writer that fail.
+#[derive(Drop)]
+struct Broken;
+
+impl io::Read for Broken {
+    fn read(&mut self, _buf: &mut [u8]) -> io::Result<usize> {
+        Err(io::Error::from(io::ErrorKind::Other))
+    }
+}
+
+impl io::Write for Broken {
+    fn write(&mut self, _buf: &[u8]) -> io::Result<usize> {
+        Ok(0)
+    }
+
+    fn flush(&mut self) -> io::Result<()> {
+        Ok(())
+    }
+}
+
+#[test]
+fn standard_streams(rt: HostRuntime) -> Result<(), Fail> {
+    let mut block = [0; 4];
+    let mut source = StdSource::new(b"abc".as_slice());
+    assert_eq!(rt; source.take(&mut block), Ok(3));
+    assert_eq!(rt; block.as_slice(), b"abc\0".as_slice());
+    assert_eq!(rt; source.take(&mut block), Ok(0));
+    assert_eq!(rt; StdSource::new(Broken).take(&mut block), Err(Failed));
+
+    let mut bytes = Vec::new(rt.alloc());
+    assert_eq!(rt; StdSink::new(&mut bytes).put(b"abc"), Ok(()));
+    assert_eq!(rt; bytes.as_slice(), b"abc".as_slice());
+    assert_eq!(rt; StdSink::new(Broken).put(b"abc"), Err(Failed));
+    Ok(())
+}
