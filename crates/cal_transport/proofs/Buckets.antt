@@ -1,19 +1,17 @@
 -- The pool's marks are the ledger's free buckets.
-use Rattle.std.proofs.Common.{ℕ, zero, suc, ◌+◌, ◌-◌, ◌*◌, ◌/◌, ◌<◌, ◌≤◌, ◌≡◌, ◌≢◌, ◌⊎◌, inl, inr, Bool, true, false, cond, not, ◌||◌, ◌&&◌, nat_eq, nat_lt, nat_le, List, [], ◌∷◌, ◌++◌, length, get_or, Option, Some, None, option_map, refl, sym, ap, ◌∙◌, subst, arith}
+use Rattle.std.proofs.Common.{ℕ, zero, suc, ◌<◌, ◌≡◌, ◌≢◌, inl, inr, Bool, true, false, cond, not, ◌||◌, ◌&&◌, nat_eq, nat_lt, nat_le, List, [], ◌∷◌, length, get_or, Some, None, option_map, refl, sym, ap, ◌∙◌, subst, arith}
 use Rattle.std.specs.List.{slice_get, list_any, list_all, filter}
-use Rattle.std.proofs.lemmas.Bool.{cases_lt, true≢false}
+use Rattle.std.proofs.lemmas.Bool.{true≢false}
 use Rattle.std.proofs.lemmas.Bool.Decides.{nat_tests, eqb_tells}
 use Rattle.std.proofs.lemmas.Option.{same_Some, none-some}
 use Rattle.std.proofs.lemmas.List.Folds.{list_any-append}
-use Rattle.cal_alloc.specs.Growth.{Buckets, fits_bucket}
 use Rattle.cal_alloc.specs.Pool.{Pool, is_used, pool_refusal}
 use Rattle.cal_alloc.specs.Pool as pool
 use Rattle.cal_alloc.specs.SizeAndAlignment.{SizeAndAlignment}
 use Rattle.cal_alloc.specs.declared.shm_allocator.ShmAllocationError.{ShmAllocationError}
 use Rattle.cal_alloc.specs.declared.shm_allocator.ShmAllocationError.TheVariants as error
-use Rattle.cal_transport.specs.declared.reply.Refusal.{Refusal}
 use Rattle.cal_transport.specs.declared.reply.Refusal.TheVariants.{ExceedsMaxSupportedAlignment, SizeTooLarge, OutOfMemory}
-use Rattle.cal_transport.specs.Ledger.{Ledger, Chunk, Channel, is_live, is_free, has_free_bucket, numbers_below, is_in_transit}
+use Rattle.cal_transport.specs.Ledger.{Chunk, is_live, is_free, has_free_bucket, numbers_below, is_in_transit}
 use Rattle.cal_transport.specs.Cause.{static_cause, serves, is_full}
 use Rattle.cal_transport.specs.Parts.{Parts, Shown, Show, ledger_of, lives}
 use Rattle.cal_transport.specs.Rules.{refusal_of, IsPools}
@@ -25,7 +23,7 @@ or_true true = refl
 or_true false = refl
 
 any_stands : (p q : Chunk → Bool) (xs : List Chunk) (i : ℕ) (x : Chunk) → slice_get xs i ≡ Some x → p x ≡ true → q x ≡ true →
-  list_any p (filter q xs) ≡ true
+    list_any p (filter q xs) ≡ true
 any_stands p q [] i x e a b = absurd (none-some x e)
 any_stands p q (y ∷ xs) zero x e a b =
     let here = same_Some y x e in
@@ -38,7 +36,7 @@ any_stands p q (y ∷ xs) (suc i) x e a b = go (any_stands p q xs i x e a b) (q 
     go rest false f = ap (λ m. list_any p (cond m (y ∷ filter q xs) (filter q xs))) f ∙ rest
 
 any_none : (p q : Chunk → Bool) (xs : List Chunk) → ((i : ℕ) (x : Chunk) → slice_get xs i ≡ Some x → q x ≡ true → p x ≡ false) →
-  list_any p (filter q xs) ≡ false
+    list_any p (filter q xs) ≡ false
 any_none p q [] none = refl
 any_none p q (y ∷ xs) none = go (any_none p q xs (λ i x e. none (suc i) x e)) (q y) refl
   where
@@ -49,13 +47,14 @@ any_none p q (y ∷ xs) none = go (any_none p q xs (λ i x e. none (suc i) x e))
 any_below : (f : ℕ → Bool) (n k : ℕ) → k < n → f k ≡ true → list_any f (numbers_below n) ≡ true
 any_below f zero k below e = absurd (omega arith)
 any_below f (suc n) k below e = list_any-append f (numbers_below n) (n ∷ []) ∙ elim (eqb_tells k n) [
-    inl same ↦ (let e' : f n ≡ true = ap f (sym same.1) ∙ e in ap (λ m. list_any f (numbers_below n) || (m || false)) e' ∙ or_true (list_any f (numbers_below n)))
-  | inr apart ↦ (let q = apart.1 in ap (λ m. m || (f n || false)) (any_below f n k (omega arith) e)) ]
+  | inl same ↦ (let e' : f n ≡ true = ap f (sym same.1) ∙ e in ap (λ m. list_any f (numbers_below n) || (m || false)) e' ∙ or_true (list_any f (numbers_below n)))
+  | inr apart ↦ (let q = apart.1 in ap (λ m. m || (f n || false)) (any_below f n k (omega arith) e))
+]
 
 none_below : (f : ℕ → Bool) (n : ℕ) → ((k : ℕ) → k < n → f k ≡ false) → list_any f (numbers_below n) ≡ false
 none_below f zero none = refl
 none_below f (suc n) none = list_any-append f (numbers_below n) (n ∷ [])
-  ∙ ap (λ m. m || (f n || false)) (none_below f n (λ k below. none k (omega arith))) ∙ ap (λ m. m || false) (none n (omega arith))
+    ∙ ap (λ m. m || (f n || false)) (none_below f n (λ k below. none k (omega arith))) ∙ ap (λ m. m || false) (none n (omega arith))
 
 -- where not all marks are set, one isn't
 unset_mark : (marks : List Bool) → list_all (λ m. m) marks ≡ false → (k : ℕ) × (k < length marks) × (get_or marks k false ≡ false)
@@ -91,9 +90,9 @@ free_is p w bucket h = go (is_used p.pool bucket) refl
         ∙ ap not (sym used)
     go false free =
         ap not (any_none (λ chunk. nat_eq chunk.segment 0 && nat_eq chunk.bucket bucket) (is_live (ledger_of p w)) w.chunks (λ i x e alive.
-          (let housed = h.housed i x e (sym (live_is p w x) ∙ alive) in
-           let apart : x.bucket ≢ bucket = λ q. true≢false (sym housed.marked ∙ ap (is_used p.pool) q ∙ free) in
-           grind (arith, nat_tests))))
+        (let housed = h.housed i x e (sym (live_is p w x) ∙ alive) in
+        let apart : x.bucket ≢ bucket = λ q. true≢false (sym housed.marked ∙ ap (is_used p.pool) q ∙ free) in
+        grind (arith, nat_tests))))
         ∙ ap not (sym free)
 
 pub full_is : (p : Parts) (w : Shown) → Show p w → is_full (ledger_of p w) ≡ pool.is_full p.pool
@@ -109,14 +108,14 @@ full_is p w h = go (pool.is_full p.pool) refl
 -- ---- the refusals of a static memory
 
 pub static_cause_is : (p : Parts) (w : Shown) (layout : SizeAndAlignment) → Show p w →
-  static_cause (ledger_of p w) layout.size layout.alignment ≡ option_map refusal_of (pool_refusal p.pool layout)
+    static_cause (ledger_of p w) layout.size layout.alignment ≡ option_map refusal_of (pool_refusal p.pool layout)
 static_cause_is p w layout h =
     ap (λ b. cond (nat_lt p.pool.buckets.alignment layout.alignment) (Some ExceedsMaxSupportedAlignment)
-      (cond (nat_lt p.pool.buckets.size layout.size) (Some SizeTooLarge) (cond b (Some OutOfMemory) None))) (full_is p w h)
+    (cond (nat_lt p.pool.buckets.size layout.size) (Some SizeTooLarge) (cond b (Some OutOfMemory) None))) (full_is p w h)
     ∙ go (nat_lt p.pool.buckets.alignment layout.alignment) (nat_lt p.pool.buckets.size layout.size) (pool.is_full p.pool)
   where
     go : (a b c : Bool) → cond a (Some ExceedsMaxSupportedAlignment) (cond b (Some SizeTooLarge) (cond c (Some OutOfMemory) None))
-      ≡ option_map refusal_of (cond a (Some error.ExceedsMaxSupportedAlignment) (cond b (Some error.SizeTooLarge) (cond c (Some error.OutOfMemory) None)))
+        ≡ option_map refusal_of (cond a (Some error.ExceedsMaxSupportedAlignment) (cond b (Some error.SizeTooLarge) (cond c (Some error.OutOfMemory) None)))
     go true b c = refl
     go false true c = refl
     go false false true = refl
@@ -142,7 +141,7 @@ pub serves_layout : (p : Pool) (layout : SizeAndAlignment) → None ≡ pool_ref
 serves_layout p layout q = go (nat_lt p.buckets.alignment layout.alignment) (nat_lt p.buckets.size layout.size) (pool.is_full p) refl refl refl q
   where
     go : (a b c : Bool) → nat_lt p.buckets.alignment layout.alignment ≡ a → nat_lt p.buckets.size layout.size ≡ b → pool.is_full p ≡ c →
-      None ≡ cond a (Some error.ExceedsMaxSupportedAlignment) (cond b (Some error.SizeTooLarge) (cond c (Some error.OutOfMemory) None)) → ServesLayout p layout
+        None ≡ cond a (Some error.ExceedsMaxSupportedAlignment) (cond b (Some error.SizeTooLarge) (cond c (Some error.OutOfMemory) None)) → ServesLayout p layout
     go false false false a b c q = record { alignment = a; size = b; room = c }
     go true b c x y z q = absurd (none-some error.ExceedsMaxSupportedAlignment q)
     go false true c x y z q = absurd (none-some error.SizeTooLarge q)
@@ -150,7 +149,7 @@ serves_layout p layout q = go (nat_lt p.buckets.alignment layout.alignment) (nat
 
 -- the current segment then serves the loan, so that none is made
 pub serves_is : (p : Parts) (w : Shown) (layout : SizeAndAlignment) → Show p w → ServesLayout p.pool layout →
-  serves (ledger_of p w) layout.size layout.alignment ≡ true
+    serves (ledger_of p w) layout.size layout.alignment ≡ true
 serves_is p w layout h s =
     let full : not (has_free_bucket (ledger_of p w) 0) ≡ false = full_is p w h ∙ s.room in
     let a = s.alignment in let b = s.size in

@@ -1,11 +1,11 @@
 -- What several commands' proofs share: a bucket's pointer, marks of the pool and of the used list, and tests.
-use Rattle.std.proofs.Common.{ℕ, zero, suc, ◌+◌, ◌-◌, ◌*◌, ◌/◌, ◌%◌, ◌<◌, ◌≤◌, ◌≡◌, ◌≢◌, inl, inr, Bool, true, false, cond, not, nat_eq, nat_lt, nat_le, List, [], ◌∷◌, ◌++◌, length, map, set, get_or, drop, Option, Some, None, refl, sym, ap, ◌∙◌, subst, arith}
+use Rattle.std.proofs.Common.{ℕ, zero, suc, ◌*◌, ◌/◌, ◌<◌, ◌≤◌, ◌≡◌, ◌≢◌, inl, inr, Bool, true, false, cond, not, nat_le, List, [], ◌∷◌, length, Some, refl, sym, ap, ◌∙◌, arith}
 use Rattle.std.specs.List.{slice_get}
 pub use Rattle.std.proofs.Math.Nat.{mul-div_cancel}
 use Rattle.std.proofs.lemmas.List.{get_or-set_same, get_or-set_other, length-set}
-use Rattle.std.proofs.lemmas.Option.{same_Some, none-some, slice_get_within}
+use Rattle.std.proofs.lemmas.Option.{same_Some, none-some}
 use Rattle.std.proofs.lemmas.Bool.Decides.{nat_tests, eqb_tells}
-use Rattle.cal_alloc.specs.Pool.{Pool, is_used, bucket_at, with_mark, given_back, start_of, IsUsedBucket}
+use Rattle.cal_alloc.specs.Pool.{Pool, is_used, bucket_at, with_mark, given_back, IsUsedBucket}
 use Rattle.cal_alloc.specs.PointerOffset.{pointer_offset, offset_of}
 use Rattle.cal_queue.specs.UsedChunks.{UsedChunks, contains, inserted, removed, capacity_of}
 use Rattle.cal_transport.specs.Ledger.{Chunk}
@@ -54,12 +54,12 @@ pub offset_of-pointer : (offset : ℕ) → offset_of (pointer_offset offset 0) �
 offset_of-pointer offset = omega arith
 
 pub bucket_at-pointer : (pool : Pool) (bucket : ℕ) → 1 ≤ pool.buckets.size →
-  bucket_at pool (pointer_offset (bucket * pool.buckets.size) 0) ≡ bucket
+    bucket_at pool (pointer_offset (bucket * pool.buckets.size) 0) ≡ bucket
 bucket_at-pointer pool bucket size = ap (λ n. n / pool.buckets.size) (offset_of-pointer (bucket * pool.buckets.size)) ∙ mul-div_cancel bucket size
 
 -- a marked bucket's pointer is one that the pool takes back
 pub pointer_used : (pool : Pool) (bucket : ℕ) → 1 ≤ pool.buckets.size → is_used pool bucket ≡ true →
-  IsUsedBucket pool (pointer_offset (bucket * pool.buckets.size) 0)
+    IsUsedBucket pool (pointer_offset (bucket * pool.buckets.size) 0)
 pointer_used pool bucket size used =
     let at = bucket_at-pointer pool bucket size in
     record {
@@ -68,22 +68,24 @@ pointer_used pool bucket size used =
     }
 
 pub given_back-pointer : (pool : Pool) (bucket : ℕ) → 1 ≤ pool.buckets.size →
-  given_back pool (pointer_offset (bucket * pool.buckets.size) 0) ≡ with_mark pool bucket false
+    given_back pool (pointer_offset (bucket * pool.buckets.size) 0) ≡ with_mark pool bucket false
 given_back-pointer pool bucket size = ap (λ b. with_mark pool b false) (bucket_at-pointer pool bucket size)
 
 -- the bucket of a name is that of the chunk that has it, where none before it does
 pub bucket_named-at : (chunks : List Chunk) (i : ℕ) (chunk : Chunk) → slice_get chunks i ≡ Some chunk →
-  ((j : ℕ) (x : Chunk) → slice_get chunks j ≡ Some x → j ≢ i → x.name ≢ chunk.name) → bucket_named chunks chunk.name ≡ chunk.bucket
+    ((j : ℕ) (x : Chunk) → slice_get chunks j ≡ Some x → j ≢ i → x.name ≢ chunk.name) → bucket_named chunks chunk.name ≡ chunk.bucket
 bucket_named-at [] i chunk e apart = absurd (none-some chunk e)
 bucket_named-at (x ∷ chunks) zero chunk e apart =
     let here = same_Some x chunk e in
     elim (eqb_tells x.name chunk.name) [
-        inl same ↦ ap (λ b. cond b x.bucket (bucket_named chunks chunk.name)) same.0 ∙ ap (λ y. y.bucket) here
-      | inr other ↦ absurd (other.1 (ap (λ y. y.name) here)) ]
+      | inl same ↦ ap (λ b. cond b x.bucket (bucket_named chunks chunk.name)) same.0 ∙ ap (λ y. y.bucket) here
+      | inr other ↦ absurd (other.1 (ap (λ y. y.name) here))
+    ]
 bucket_named-at (x ∷ chunks) (suc i) chunk e apart = elim (eqb_tells x.name chunk.name) [
-    inl same ↦ absurd (apart 0 x refl (λ q. absurd (omega arith)) same.1)
+  | inl same ↦ absurd (apart 0 x refl (λ q. absurd (omega arith)) same.1)
   | inr other ↦ ap (λ b. cond b x.bucket (bucket_named chunks chunk.name)) other.0
-      ∙ bucket_named-at chunks i chunk e (λ j y stands elsewhere. apart (suc j) y stands (λ q. elsewhere (omega arith))) ]
+      ∙ bucket_named-at chunks i chunk e (λ j y stands elsewhere. apart (suc j) y stands (λ q. elsewhere (omega arith)))
+]
 
 -- ---- a pool that keeps a bucket or takes it back
 
@@ -96,8 +98,8 @@ pub record HasMark (old new : Pool) (bucket : ℕ) (mark : Bool) : Type 0 where
   pub else : (other : ℕ) → other ≢ bucket → is_used new other ≡ is_used old other
 
 pub kept_or_freed : (pool : Pool) (bucket value : ℕ) (kept : Bool) → 1 ≤ pool.buckets.size → bucket < length pool.used →
-  is_used pool bucket ≡ true → value ≡ pointer_offset (bucket * pool.buckets.size) 0 →
-  HasMark pool (cond kept pool (given_back pool value)) bucket kept
+    is_used pool bucket ≡ true → value ≡ pointer_offset (bucket * pool.buckets.size) 0 →
+    HasMark pool (cond kept pool (given_back pool value)) bucket kept
 kept_or_freed pool bucket value true size within used e = record { ready = refl; buckets = refl; long = refl; here = used; else = λ other apart. refl }
 kept_or_freed pool bucket value false size within used e =
     let freed : given_back pool value ≡ with_mark pool bucket false = ap (given_back pool) e ∙ given_back-pointer pool bucket size in

@@ -1,65 +1,61 @@
 -- A discard is a step.
-use Rattle.std.proofs.Common.{ℕ, ◌+◌, ◌-◌, ◌*◌, ◌/◌, ◌^◌, ◌<◌, ◌≤◌, ◌≡◌, ◌≢◌, ◌⊎◌, inl, inr, Bool, true, false, cond, not, ◌||◌, nat_eq, nat_lt, nat_le, List, [], ◌∷◌, ◌++◌, length, take, drop, map, set, get_or, Option, Some, None, refl, sym, ap, ◌∙◌, subst, arith, length-append, length-drop}
-use Rattle.std.specs.List.{slice_get, find}
-use Rattle.std.proofs.lemmas.Bool.{cases_lt, true≢false}
+use Rattle.std.proofs.Common.{ℕ, ◌*◌, ◌<◌, ◌≤◌, ◌≡◌, ◌≢◌, inl, inr, Bool, true, false, cond, [], ◌∷◌, set, Some, None, refl, sym, ap, ◌∙◌, subst, arith}
+use Rattle.std.specs.List.{slice_get}
+use Rattle.std.proofs.lemmas.Bool.{cases_lt}
 use Rattle.std.proofs.lemmas.Bool.Decides.{nat_tests}
-use Rattle.std.proofs.lemmas.List.{map-append, length-map, append-nil, length-set, get_or_past}
-use Rattle.cal_alloc.specs.Pool.{Pool, is_used, given_back, IsUsedBucket}
-use Rattle.cal_alloc.specs.PointerOffset.{pointer_offset, offset_of}
-use Rattle.cal_queue.specs.Queue.{Queue, is_full, oldest, pushed, popped}
-use Rattle.cal_queue.specs.UsedChunks.{UsedChunks, contains, removed, capacity_of}
+use Rattle.std.proofs.lemmas.List.{get_or_past}
+use Rattle.cal_alloc.specs.Pool.{Pool, given_back, IsUsedBucket}
+use Rattle.cal_alloc.specs.PointerOffset.{pointer_offset}
+use Rattle.cal_queue.specs.UsedChunks.{contains}
 use Rattle.cal_transport.specs.declared.entry.Entry.{Entry}
 use Rattle.cal_transport.specs.declared.entry.Found.{Found}
 use Rattle.cal_transport.specs.declared.command.Command.TheVariants as command
-use Rattle.cal_transport.specs.declared.reply.Slot.{Slot}
-use Rattle.cal_transport.specs.declared.reply.Reply.TheVariants.{Shown as Bytes, Released, Reclaimed, Discarded, Refused}
-use Rattle.cal_transport.specs.declared.reply.Refusal.{Refusal}
-use Rattle.cal_transport.specs.declared.reply.Refusal.TheVariants.{OutsideConnection, OutsideChunk, NotBorrowed, NotLoaned, RetrieveBufferFull}
-use Rattle.cal_transport.specs.Settings.{completion_size}
-use Rattle.cal_transport.specs.Ledger.{Ledger, Chunk, Channel, if_loaned, channel_at, buckets_at, queued, completed, is_borrowed, borrow_count, is_in_transit, received, occurrences}
-use Rattle.cal_transport.specs.Cause.{cause, read_cause, release_cause, reclaim_cause, discard_cause}
-use Rattle.cal_transport.specs.Step.{released_on, reclaimed_from, front, slot_named, shown_bytes, changed, changed_chunk}
-use Rattle.cal_transport.specs.Entry.{IsUnnamed, IsFound, LeadsToEntry}
-use Rattle.cal_transport.specs.Parts.{Parts, Shown, Show, Does, IsOrderly, ledger_of, entry_of, lives, weight, pointer_to, bucket_named, bytes_at}
-use Rattle.cal_transport.specs.Rules.{read_rule, release_rule, DoesAnywhere}
-use Rattle.cal_transport.proofs.Lists.{set_there}
-use Rattle.cal_transport.proofs.Names.{is_in_transit-weight, occurrences_here, occurrences_else, completed-released_on, weight-released_on, borrow_count-released_on, borrowed_once, fewer_released, is_borrowed-released_else, is_borrowed-released_here, orderly_released_on, completed-reclaimed_from, weight-reclaimed_from, orderly_reclaimed_from}
-use Rattle.cal_transport.proofs.Update.{Changes, changed_shown, shows_changed, names_apart, loaned_lives, transit_lives, entry_at, bucket_within}
-use Rattle.cal_transport.proofs.Steps.{refused, done, IsStep, unnamed, found_chunk, IsChunk, changed_chunk-at, entry_within, IsWithin}
-use Rattle.cal_transport.proofs.Changing.{le_true, le_false, le_when, bucket_named-at, removed_here, removed_else, HasMark, kept_or_freed, offset_of-pointer, pointer_used}
+use Rattle.cal_transport.specs.declared.reply.Reply.TheVariants.{Discarded, Refused}
+use Rattle.cal_transport.specs.declared.reply.Refusal.TheVariants.{NotLoaned}
+use Rattle.cal_transport.specs.Ledger.{Chunk, if_loaned, is_in_transit}
+use Rattle.cal_transport.specs.Cause.{discard_cause}
+use Rattle.cal_transport.specs.Step.{changed_chunk}
+use Rattle.cal_transport.specs.Entry.{IsUnnamed, IsFound}
+use Rattle.cal_transport.specs.Parts.{Parts, Shown, Show, ledger_of, entry_of, lives, weight}
+use Rattle.cal_transport.specs.Rules.{DoesAnywhere}
+use Rattle.cal_transport.proofs.Names.{is_in_transit-weight}
+use Rattle.cal_transport.proofs.Update.{Changes, changed_shown, shows_changed, names_apart, loaned_lives, bucket_within}
+use Rattle.cal_transport.proofs.Steps.{refused, done, unnamed, found_chunk, changed_chunk-at}
+use Rattle.cal_transport.proofs.Changing.{HasMark, kept_or_freed, pointer_used}
 
 pub discard_unnamed : (p : Parts) (name : ℕ) → IsUnnamed p.entries name → DoesAnywhere p (command.Discard name) (Refused NotLoaned) p
 discard_unnamed p name none place = refused p place (command.Discard name) NotLoaned (λ w h.
-  ap (λ o. discard_cause (if_loaned o)) (unnamed p w name h none))
+    ap (λ o. discard_cause (if_loaned o)) (unnamed p w name h none))
 
 pub discard_ended : (p : Parts) (name : ℕ) (found : Found) → IsFound p.entries name found → found.entry.loaned ≡ false →
-  DoesAnywhere p (command.Discard name) (Refused NotLoaned) p
+    DoesAnywhere p (command.Discard name) (Refused NotLoaned) p
 discard_ended p name found is ended place = refused p place (command.Discard name) NotLoaned (λ w h.
-  let c = found_chunk p w name found h is in
-  let over : c.chunk.loaned ≡ false = sym (ap (λ e. e.loaned) c.entry_is) ∙ ended in
-  ap (λ o. discard_cause (if_loaned o)) c.named ∙ ap (λ b. discard_cause (cond b (Some c.chunk) None)) over)
+    let c = found_chunk p w name found h is in
+    let over : c.chunk.loaned ≡ false = sym (ap (λ e. e.loaned) c.entry_is) ∙ ended in
+    ap (λ o. discard_cause (if_loaned o)) c.named ∙ ap (λ b. discard_cause (cond b (Some c.chunk) None)) over)
 
 -- the used list tells of every bucket that a live chunk has whether the chunk is in transit
 pub used_is : (p : Parts) (w : Shown) (i : ℕ) (chunk : Chunk) → Show p w → slice_get w.chunks i ≡ Some chunk → lives w.channel chunk ≡ true →
-  contains p.used chunk.bucket ≡ is_in_transit w.channel chunk.name
+    contains p.used chunk.bucket ≡ is_in_transit w.channel chunk.name
 used_is p w i chunk h stands alive = elim (cases_lt chunk.bucket p.settings.samples) [
-    inl within ↦ (h.housed i chunk stands alive).in_use within
+  | inl within ↦ (h.housed i chunk stands alive).in_use within
   | inr beyond ↦ (
       let past : contains p.used chunk.bucket ≡ false = get_or_past p.used.marks chunk.bucket false (let e = h.ready.used in omega arith) in
-      past ∙ sym (go (is_in_transit w.channel chunk.name) refl beyond)) ]
+      past ∙ sym (go (is_in_transit w.channel chunk.name) refl beyond))
+]
   where
     go : (b : Bool) → is_in_transit w.channel chunk.name ≡ b → p.settings.samples ≤ chunk.bucket → is_in_transit w.channel chunk.name ≡ false
     go false e beyond = e
     go true e beyond = (let q = sym (is_in_transit-weight w.channel chunk.name) ∙ e in
-      let heavy : 0 < weight w.channel chunk.name = grind (arith, nat_tests) in
-      let within = bucket_within p w i chunk h stands heavy in absurd (omega arith))
+        let heavy : 0 < weight w.channel chunk.name = grind (arith, nat_tests) in
+        let within = bucket_within p w i chunk h stands heavy in absurd (omega arith))
 
 abbrev pub discarded_parts : Parts → ℕ → Entry → Pool → Parts
 discarded_parts p i entry pool = record p { pool = pool; entries = set p.entries i (record entry { loaned = false }) }
 
 discarded_changes : (p : Parts) (w : Shown) (i : ℕ) (chunk : Chunk) (pool : Pool) → Show p w → slice_get w.chunks i ≡ Some chunk → chunk.loaned ≡ true →
-  HasMark p.pool pool chunk.bucket (contains p.used chunk.bucket) →
-  Changes p (discarded_parts p i (entry_of w.channel chunk) pool) w i chunk (record chunk { loaned = false }) w.channel
+    HasMark p.pool pool chunk.bucket (contains p.used chunk.bucket) →
+    Changes p (discarded_parts p i (entry_of w.channel chunk) pool) w i chunk (record chunk { loaned = false }) w.channel
 discarded_changes p w i chunk pool h stands loaned mark =
     let alive = loaned_lives w.channel chunk loaned in
     let housed = h.housed i chunk stands alive in
@@ -107,41 +103,41 @@ discarded_changes p w i chunk pool h stands loaned mark =
     }
 
 pub discarded : (p : Parts) (name value : ℕ) (found : Found) (pool : Pool) → IsFound p.entries name found → found.entry.loaned ≡ true →
-  value ≡ pointer_offset (found.entry.bucket * p.pool.buckets.size) 0 →
-  pool ≡ cond (contains p.used found.entry.bucket) p.pool (given_back p.pool value) →
-  DoesAnywhere p (command.Discard name) Discarded (discarded_parts p found.index found.entry pool)
+    value ≡ pointer_offset (found.entry.bucket * p.pool.buckets.size) 0 →
+    pool ≡ cond (contains p.used found.entry.bucket) p.pool (given_back p.pool value) →
+    DoesAnywhere p (command.Discard name) Discarded (discarded_parts p found.index found.entry pool)
 discarded p name value found pool is loaned pointer freed place = done p (discarded_parts p found.index found.entry pool) place (command.Discard name) Discarded (λ w h.
-  let c = found_chunk p w name found h is in
-  let lent : c.chunk.loaned ≡ true = sym (ap (λ e. e.loaned) c.entry_is) ∙ loaned in
-  let bucket : found.entry.bucket ≡ c.chunk.bucket = ap (λ e. e.bucket) c.entry_is in
-  let alive = loaned_lives w.channel c.chunk lent in
-  let housed = h.housed found.index c.chunk c.stands alive in
-  let placed = h.placed found.index c.chunk c.stands in
-  let mark : HasMark p.pool pool c.chunk.bucket (contains p.used c.chunk.bucket) =
+    let c = found_chunk p w name found h is in
+    let lent : c.chunk.loaned ≡ true = sym (ap (λ e. e.loaned) c.entry_is) ∙ loaned in
+    let bucket : found.entry.bucket ≡ c.chunk.bucket = ap (λ e. e.bucket) c.entry_is in
+    let alive = loaned_lives w.channel c.chunk lent in
+    let housed = h.housed found.index c.chunk c.stands alive in
+    let placed = h.placed found.index c.chunk c.stands in
+    let mark : HasMark p.pool pool c.chunk.bucket (contains p.used c.chunk.bucket) =
     subst (λ q. HasMark p.pool q c.chunk.bucket (contains p.used c.chunk.bucket))
-      (sym (freed ∙ ap (λ b. cond (contains p.used b) p.pool (given_back p.pool value)) bucket))
-      (kept_or_freed p.pool c.chunk.bucket value (contains p.used c.chunk.bucket) h.ready.size (let m = h.ready.marks in let b = placed.bucket in omega arith)
-        housed.marked (pointer ∙ ap (λ b. pointer_offset (b * p.pool.buckets.size) 0) bucket)) in
-  let new : Chunk = record c.chunk { loaned = false } in
-  let apart = λ (j : ℕ) (x : Chunk) (there : slice_get w.chunks j ≡ Some x) (elsewhere : j ≢ found.index). names_apart p w j found.index x c.chunk h there c.stands elsewhere in
-  record {
-    none = ap (λ o. discard_cause (if_loaned o)) c.named ∙ ap (λ b. discard_cause (cond b (Some c.chunk) None)) lent;
-    owes = refl;
-    shown = changed_shown w found.index new w.channel w.shown;
-    made = ap (λ n. record (ledger_of p w) { chunks = changed_chunk (λ x. record x { loaned = false }) n w.chunks }) (sym c.same_name)
-      ∙ ap (λ chunks. record (ledger_of p w) { chunks = chunks }) (changed_chunk-at w.chunks found.index c.chunk (λ x. record x { loaned = false }) c.stands apart)
-      ∙ ap (λ b. record (ledger_of p (changed_shown w found.index new w.channel w.shown)) { segments = b ∷ [] }) (sym mark.buckets);
-    show = (let Q : Entry → Type 0 = λ e. Show (discarded_parts p found.index e pool) (changed_shown w found.index new w.channel w.shown) in
-      subst Q (sym c.entry_is) (shows_changed p (discarded_parts p found.index (entry_of w.channel c.chunk) pool) w found.index c.chunk new w.channel w.shown h c.stands alive
-        (discarded_changes p w found.index c.chunk pool h c.stands lent mark)));
-  })
+    (sym (freed ∙ ap (λ b. cond (contains p.used b) p.pool (given_back p.pool value)) bucket))
+    (kept_or_freed p.pool c.chunk.bucket value (contains p.used c.chunk.bucket) h.ready.size (let m = h.ready.marks in let b = placed.bucket in omega arith)
+    housed.marked (pointer ∙ ap (λ b. pointer_offset (b * p.pool.buckets.size) 0) bucket)) in
+    let new : Chunk = record c.chunk { loaned = false } in
+    let apart = λ (j : ℕ) (x : Chunk) (there : slice_get w.chunks j ≡ Some x) (elsewhere : j ≢ found.index). names_apart p w j found.index x c.chunk h there c.stands elsewhere in
+    record {
+      none = ap (λ o. discard_cause (if_loaned o)) c.named ∙ ap (λ b. discard_cause (cond b (Some c.chunk) None)) lent;
+      owes = refl;
+      shown = changed_shown w found.index new w.channel w.shown;
+      made = ap (λ n. record (ledger_of p w) { chunks = changed_chunk (λ x. record x { loaned = false }) n w.chunks }) (sym c.same_name)
+          ∙ ap (λ chunks. record (ledger_of p w) { chunks = chunks }) (changed_chunk-at w.chunks found.index c.chunk (λ x. record x { loaned = false }) c.stands apart)
+          ∙ ap (λ b. record (ledger_of p (changed_shown w found.index new w.channel w.shown)) { segments = b ∷ [] }) (sym mark.buckets);
+      show = (let Q : Entry → Type 0 = λ e. Show (discarded_parts p found.index e pool) (changed_shown w found.index new w.channel w.shown) in
+          subst Q (sym c.entry_is) (shows_changed p (discarded_parts p found.index (entry_of w.channel c.chunk) pool) w found.index c.chunk new w.channel w.shown h c.stands alive
+          (discarded_changes p w found.index c.chunk pool h c.stands lent mark)));
+    })
 
 -- what the code asks: the pointer names a used bucket
 pub discard_used : (p : Parts) (w : Shown) (name value : ℕ) (found : Found) → Show p w → IsFound p.entries name found → found.entry.loaned ≡ true →
-  value ≡ pointer_offset (found.entry.bucket * p.pool.buckets.size) 0 → IsUsedBucket p.pool value
+    value ≡ pointer_offset (found.entry.bucket * p.pool.buckets.size) 0 → IsUsedBucket p.pool value
 discard_used p w name value found h is loaned pointer =
     let c = found_chunk p w name found h is in
     let lent : c.chunk.loaned ≡ true = sym (ap (λ e. e.loaned) c.entry_is) ∙ loaned in
     let housed = h.housed found.index c.chunk c.stands (loaned_lives w.channel c.chunk lent) in
     subst (IsUsedBucket p.pool) (sym (pointer ∙ ap (λ e. pointer_offset (e.bucket * p.pool.buckets.size) 0) c.entry_is))
-      (pointer_used p.pool c.chunk.bucket h.ready.size housed.marked)
+    (pointer_used p.pool c.chunk.bucket h.ready.size housed.marked)

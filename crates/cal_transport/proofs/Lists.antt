@@ -1,9 +1,8 @@
 -- Elements of lists by their places, where a place is written.
-use Rattle.std.proofs.Common.{ℕ, zero, suc, ◌+◌, ◌<◌, ◌≡◌, ◌≢◌, ◌⊎◌, inl, inr, List, [], ◌∷◌, ◌++◌, length, map, set, Option, Some, None, Bool, true, false, refl, sym, ap, ◌∙◌, subst, arith}
+use Rattle.std.proofs.Common.{ℕ, zero, suc, ◌≡◌, ◌≢◌, ◌⊎◌, inl, inr, List, [], ◌∷◌, ◌++◌, length, map, set, Some, refl, sym, ap, ◌∙◌, subst, arith}
 use Rattle.std.specs.List.{slice_get}
 use Rattle.std.proofs.lemmas.Option.{same_Some}
 use Rattle.std.proofs.lemmas.Bool.Decides.{eqb_tells}
-use Rattle.std.proofs.lemmas.Grind.{common_steps}
 
 -- two numbers are the same or apart
 pub same_or_apart : (a b : ℕ) → (a ≡ b) ⊎ (a ≢ b)
@@ -23,14 +22,15 @@ slice_get-set_else (z ∷ xs) (suc i) (suc j) y apart = slice_get-set_else xs i 
 
 -- an element of a written list is the one that was written, or an old one at another place
 pub written_or_old : {A : Type 0} (xs : List A) (i j : ℕ) (x y z : A) → slice_get xs i ≡ Some z → slice_get (set xs i y) j ≡ Some x →
-  ((j ≡ i) × (x ≡ y)) ⊎ ((j ≢ i) × (slice_get xs j ≡ Some x))
+    ((j ≡ i) × (x ≡ y)) ⊎ ((j ≢ i) × (slice_get xs j ≡ Some x))
 written_or_old xs i j x y z here e = elim (same_or_apart j i) [
-    inl same ↦ inl (same, same_Some x y (sym (subst (λ k. slice_get (set xs i y) k ≡ Some x) same e) ∙ slice_get-set_same xs i z y here))
-  | inr apart ↦ inr (apart, sym (slice_get-set_else xs i j y apart) ∙ e) ]
+  | inl same ↦ inl (same, same_Some x y (sym (subst (λ k. slice_get (set xs i y) k ≡ Some x) same e) ∙ slice_get-set_same xs i z y here))
+  | inr apart ↦ inr (apart, sym (slice_get-set_else xs i j y apart) ∙ e)
+]
 
 -- a map of a written list, by another function that gives the same at the other places
 pub map-set_agree : {A B : Type 0} (f g : A → B) (xs : List A) (i : ℕ) (y : A) →
-  ((j : ℕ) (x : A) → j ≢ i → slice_get xs j ≡ Some x → f x ≡ g x) → set (map f xs) i (g y) ≡ map g (set xs i y)
+    ((j : ℕ) (x : A) → j ≢ i → slice_get xs j ≡ Some x → f x ≡ g x) → set (map f xs) i (g y) ≡ map g (set xs i y)
 map-set_agree f g [] i y agree = refl
 map-set_agree f g (x ∷ xs) zero y agree = ap (λ rest. g y ∷ rest) (all_agree f g xs (λ j z e. agree (suc j) z (λ q. absurd (omega arith)) e))
   where
@@ -63,7 +63,7 @@ slice_get-append_new [] y = refl
 slice_get-append_new (z ∷ xs) y = slice_get-append_new xs y
 
 pub old_or_new : {A : Type 0} (xs : List A) (y : A) (i : ℕ) (x : A) → slice_get (xs ++ y ∷ []) i ≡ Some x →
-  (slice_get xs i ≡ Some x) ⊎ ((i ≡ length xs) × (x ≡ y))
+    (slice_get xs i ≡ Some x) ⊎ ((i ≡ length xs) × (x ≡ y))
 old_or_new [] y zero x e = inr (refl, sym (same_Some y x e))
 old_or_new [] y (suc i) x e = cc
 old_or_new (z ∷ xs) y zero x e = inl e

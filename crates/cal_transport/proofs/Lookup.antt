@@ -1,5 +1,5 @@
 -- The search for a name in records whose names rise.
-use Rattle.std.proofs.Common.{ℕ, ◌+◌, ◌<◌, ◌≤◌, ◌≡◌, ◌≢◌, List, length, Option, Some}
+use Rattle.std.proofs.Common.{ℕ, ◌<◌, ◌≤◌, ◌≡◌, List, length, Some}
 use Rattle.std.specs.List.{slice_get}
 use Rattle.cal_transport.specs.declared.entry.Entry.{Entry}
 

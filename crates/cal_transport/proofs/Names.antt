@@ -1,7 +1,6 @@
 -- How often a name stands in a list, and what a change of a channel's four lists leaves of its name's way.
-use Rattle.std.proofs.Common.{ℕ, zero, suc, ◌+◌, ◌-◌, ◌<◌, ◌≤◌, ◌≡◌, ◌≢◌, Bool, true, false, cond, ◌||◌, ◌⊎◌, inl, inr, nat_lt, nat_le, nat_eq, List, [], ◌∷◌, ◌++◌, length, take, drop, map, Option, Some, None, refl, sym, ap, ◌∙◌, subst, arith, zero-add, add-zero, add-one, length-append, length-drop}
+use Rattle.std.proofs.Common.{ℕ, zero, suc, ◌+◌, ◌-◌, ◌<◌, ◌≤◌, ◌≡◌, ◌≢◌, true, false, cond, ◌||◌, inl, inr, nat_lt, nat_eq, List, [], ◌∷◌, ◌++◌, length, drop, Some, None, refl, sym, ap, ◌∙◌, subst, arith, zero-add, add-zero, add-one, length-append}
 use Rattle.std.proofs.lemmas.List.{drop-append-le, append-nil}
-use Rattle.std.proofs.lemmas.Grind.{common_steps}
 use Rattle.std.proofs.lemmas.Bool.Decides.{nat_tests, eqb_tells}
 use Rattle.cal_transport.specs.Ledger.{Channel, Departure, ByReceive, ByOverflow, received, occurrences, has_name, queued, completed, is_borrowed, borrow_count, is_in_transit}
 use Rattle.cal_transport.specs.Step.{sent_on, received_from, released_on, reclaimed_from}
@@ -16,8 +15,9 @@ occurrences-append name (x ∷ xs) ys = omega (arith, occurrences-append name xs
 pub has_name-occurrences : (name : ℕ) (xs : List ℕ) → has_name name xs ≡ nat_lt 0 (occurrences name xs)
 has_name-occurrences name [] = refl
 has_name-occurrences name (x ∷ xs) = elim (nat_eq x name) as (λ b. (b || has_name name xs) ≡ nat_lt 0 (cond b 1 0 + occurrences name xs)) [
-    true ↦ grind (arith, nat_tests)
-  | false ↦ rw zero-add (has_name-occurrences name xs) ]
+  | true ↦ grind (arith, nat_tests)
+  | false ↦ rw zero-add (has_name-occurrences name xs)
+]
 
 pub occurrences_here : (name : ℕ) (xs : List ℕ) → occurrences name (name ∷ xs) ≡ suc (occurrences name xs)
 occurrences_here name xs = grind (arith, nat_tests)
@@ -34,16 +34,18 @@ length-without : (name : ℕ) (xs : List ℕ) → 0 < occurrences name xs → le
 unfolding without
 length-without name [] some = absurd (omega arith)
 length-without name (x ∷ xs) some = elim (eqb_tells x name) [
-    inl same ↦ rw same.0 (omega arith)
-  | inr apart ↦ rw apart.0 (let e = occurrences_else name x xs apart.1 in omega (arith, length-without name xs)) ]
+  | inl same ↦ rw same.0 (omega arith)
+  | inr apart ↦ rw apart.0 (let e = occurrences_else name x xs apart.1 in omega (arith, length-without name xs))
+]
 
 occurrences-without : (name other : ℕ) (xs : List ℕ) → 0 < occurrences name xs →
-  occurrences other (without name xs) + occurrences other (name ∷ []) ≡ occurrences other xs
+    occurrences other (without name xs) + occurrences other (name ∷ []) ≡ occurrences other xs
 unfolding without
 occurrences-without name other [] some = absurd (omega arith)
 occurrences-without name other (x ∷ xs) some = elim (eqb_tells x name) [
-    inl same ↦ rw same.0 (subst (λ y. occurrences other xs + occurrences other (y ∷ []) ≡ occurrences other (x ∷ xs)) same.1 (omega arith))
-  | inr apart ↦ rw apart.0 (let e = occurrences_else name x xs apart.1 in omega (arith, occurrences-without name other xs)) ]
+  | inl same ↦ rw same.0 (subst (λ y. occurrences other xs + occurrences other (y ∷ []) ≡ occurrences other (x ∷ xs)) same.1 (omega arith))
+  | inr apart ↦ rw apart.0 (let e = occurrences_else name x xs apart.1 in omega (arith, occurrences-without name other xs))
+]
 
 -- a list in which no name stands more often than in another isn't longer
 pub occurrences_bound_length : (xs ys : List ℕ) → ((name : ℕ) → occurrences name xs ≤ occurrences name ys) → length xs ≤ length ys
@@ -57,8 +59,9 @@ occurrences_bound_length (x ∷ xs) ys bound =
 -- a number that is 0 at a name, and 1 at most elsewhere, stays 1 at most where it rises there by one
 one_more : (w : ℕ → ℕ) (name other : ℕ) → w name ≡ 0 → w other ≤ 1 → w other + occurrences other (name ∷ []) ≤ 1
 one_more w name other none once = elim (eqb_tells name other) [
-    inl same ↦ (let e = occurrences_here other [] in let n = subst (λ x. w x ≡ 0) same.1 none in subst (λ x. w other + occurrences other (x ∷ []) ≤ 1) (sym same.1) (omega arith))
-  | inr apart ↦ (let e = occurrences_else other name [] apart.1 in omega arith) ]
+  | inl same ↦ (let e = occurrences_here other [] in let n = subst (λ x. w x ≡ 0) same.1 none in subst (λ x. w other + occurrences other (x ∷ []) ≤ 1) (sym same.1) (omega arith))
+  | inr apart ↦ (let e = occurrences_else other name [] apart.1 in omega arith)
+]
 
 pub received-append : (xs ys : List Departure) → received (xs ++ ys) ≡ received xs ++ received ys
 received-append [] ys = refl
@@ -90,7 +93,7 @@ pub queued-sent_on : (c : Channel) (name : ℕ) → IsOrderly c → queued (sent
 queued-sent_on c name o = rw (append-nil c.left, drop-append-le (length c.left) c.sent (name ∷ []) o.left_sent) refl
 
 pub weight-sent_on : (c : Channel) (name other : ℕ) → IsOrderly c →
-  weight (sent_on c name None) other ≡ weight c other + occurrences other (name ∷ [])
+    weight (sent_on c name None) other ≡ weight c other + occurrences other (name ∷ [])
 weight-sent_on c name other o =
     rw (queued-sent_on c name o, append-nil c.left) (omega (arith, occurrences-append other (queued c) (name ∷ [])))
 
@@ -109,7 +112,7 @@ orderly_sent_on c name o none = record {
 -- ---- a receive
 
 pub queued-received_from : (c : Channel) (name : ℕ) (rest : List ℕ) → queued c ≡ name ∷ rest →
-  queued (received_from c (Some name)) ≡ rest
+    queued (received_from c (Some name)) ≡ rest
 queued-received_from c name rest e =
     rw length-append (drop_front (length c.left) c.sent name rest e)
 
@@ -117,15 +120,15 @@ pub received-received_from : (c : Channel) (name : ℕ) → received (received_f
 received-received_from c name = received-append c.left (ByReceive name ∷ [])
 
 pub weight-received_from : (c : Channel) (name : ℕ) (rest : List ℕ) (other : ℕ) → IsOrderly c → queued c ≡ name ∷ rest →
-  weight (received_from c (Some name)) other ≡ weight c other
+    weight (received_from c (Some name)) other ≡ weight c other
 weight-received_from c name rest other o e =
     rw (queued-received_from c name rest e, received-received_from c name)
     (let split = occurrences-append other (received c.left) (name ∷ []) in
-     let first = ap (occurrences other) e in
-     let named = o.named other in omega arith)
+    let first = ap (occurrences other) e in
+    let named = o.named other in omega arith)
 
 pub orderly_received_from : (c : Channel) (name : ℕ) (rest : List ℕ) → IsOrderly c → queued c ≡ name ∷ rest →
-  IsOrderly (received_from c (Some name))
+    IsOrderly (received_from c (Some name))
 orderly_received_from c name rest o e = record {
   left_sent = omega (arith, length-append c.left (ByReceive name ∷ []), drop_front_within (length c.left) c.sent name rest e);
   released_received = rw (received-received_from c name) (omega (arith, length-append (received c.left) (name ∷ []), o.released_received));
@@ -135,7 +138,7 @@ orderly_received_from c name rest o e = record {
 }
 
 pub borrow_count-received_from : (c : Channel) (name : ℕ) → IsOrderly c →
-  borrow_count (received_from c (Some name)) ≡ borrow_count c + 1
+    borrow_count (received_from c (Some name)) ≡ borrow_count c + 1
 borrow_count-received_from c name o =
     rw (received-received_from c name) (omega (arith, length-append (received c.left) (name ∷ []), o.released_received))
 
@@ -146,14 +149,14 @@ is_borrowed_queued c name rest o e =
     let once = o.once name in grind (arith, nat_tests)
 
 pub is_borrowed-received_from : (c : Channel) (name other : ℕ) → name ≢ other →
-  is_borrowed (received_from c (Some name)) other ≡ is_borrowed c other
+    is_borrowed (received_from c (Some name)) other ≡ is_borrowed c other
 is_borrowed-received_from c name other apart =
     rw (received-received_from c name, occurrences-append other (received c.left) (name ∷ []), occurrences_else other name [] apart, add-zero) refl
 
 pub is_borrowed-received_here : (c : Channel) (name : ℕ) → IsOrderly c → is_borrowed (received_from c (Some name)) name ≡ true
 is_borrowed-received_here c name o =
     rw (received-received_from c name) (let split = occurrences-append name (received c.left) (name ∷ []) in
-      let here = occurrences_here name [] in let named = o.named name in grind (arith, nat_tests))
+    let here = occurrences_here name [] in let named = o.named name in grind (arith, nat_tests))
 
 -- ---- a release
 
@@ -162,41 +165,46 @@ completed-released_on c name o = drop-append-le (length c.reclaimed) c.released 
 
 -- a borrowed chunk was received once more than it was given back, and is on its way nowhere else
 pub borrowed_once : (c : Channel) (name : ℕ) → IsOrderly c → is_borrowed c name ≡ true →
-  occurrences name (received c.left) ≡ occurrences name c.released + 1
+    occurrences name (received c.left) ≡ occurrences name c.released + 1
 borrowed_once c name o borrowed = let once = o.once name in grind (arith, nat_tests)
 
 weight-released_here : (c : Channel) (name : ℕ) → IsOrderly c → is_borrowed c name ≡ true →
-  weight (released_on c name) name ≡ weight c name
+    weight (released_on c name) name ≡ weight c name
 weight-released_here c name o borrowed =
     rw (completed-released_on c name o)
     (let here = occurrences_here name [] in let once = borrowed_once c name o borrowed in
-     omega (arith, occurrences-append name c.released (name ∷ []), occurrences-append name (completed c) (name ∷ [])))
+    omega (arith, occurrences-append name c.released (name ∷ []), occurrences-append name (completed c) (name ∷ [])))
 
 weight-released_else : (c : Channel) (name other : ℕ) → IsOrderly c → name ≢ other →
-  weight (released_on c name) other ≡ weight c other
+    weight (released_on c name) other ≡ weight c other
 weight-released_else c name other o apart =
     rw (completed-released_on c name o)
     (let e = occurrences_else other name [] apart in
-     omega (arith, occurrences-append other c.released (name ∷ []), occurrences-append other (completed c) (name ∷ [])))
+    omega (arith, occurrences-append other c.released (name ∷ []), occurrences-append other (completed c) (name ∷ [])))
 
 pub weight-released_on : (c : Channel) (name other : ℕ) → IsOrderly c → is_borrowed c name ≡ true →
-  weight (released_on c name) other ≡ weight c other
+    weight (released_on c name) other ≡ weight c other
 weight-released_on c name other o borrowed = elim (eqb_tells name other) [
-    inl same ↦ subst (λ x. weight (released_on c name) x ≡ weight c x) same.1 (weight-released_here c name o borrowed)
-  | inr apart ↦ weight-released_else c name other o apart.1 ]
+  | inl same ↦ subst (λ x. weight (released_on c name) x ≡ weight c x) same.1 (weight-released_here c name o borrowed)
+  | inr apart ↦ weight-released_else c name other o apart.1
+]
 
 named_released_on : (c : Channel) (name other : ℕ) → IsOrderly c → is_borrowed c name ≡ true →
-  occurrences other (c.released ++ name ∷ []) ≤ occurrences other (received c.left)
+    occurrences other (c.released ++ name ∷ []) ≤ occurrences other (received c.left)
 named_released_on c name other o borrowed = elim (eqb_tells name other) [
-    inl same ↦ subst (λ x. occurrences x (c.released ++ name ∷ []) ≤ occurrences x (received c.left)) same.1
+  | inl same ↦ subst (λ x. occurrences x (c.released ++ name ∷ []) ≤ occurrences x (received c.left)) same.1
       (let here = occurrences_here name [] in omega (arith, occurrences-append name c.released (name ∷ []), borrowed_once c name o borrowed))
   | inr apart ↦ (let e = occurrences_else other name [] apart.1 in
-      omega (arith, occurrences-append other c.released (name ∷ []), o.named other)) ]
+      omega (arith, occurrences-append other c.released (name ∷ []), o.named other))
+]
 
 pub fewer_released : (c : Channel) (name : ℕ) → IsOrderly c → is_borrowed c name ≡ true → length c.released < length (received c.left)
 fewer_released c name o borrowed =
-    omega (arith, length-append c.released (name ∷ []),
-      occurrences_bound_length (c.released ++ name ∷ []) (received c.left) (λ other. named_released_on c name other o borrowed))
+    omega (
+      arith,
+      length-append c.released (name ∷ []),
+      occurrences_bound_length (c.released ++ name ∷ []) (received c.left) (λ other. named_released_on c name other o borrowed),
+    )
 
 pub orderly_released_on : (c : Channel) (name : ℕ) → IsOrderly c → is_borrowed c name ≡ true → IsOrderly (released_on c name)
 orderly_released_on c name o borrowed = record {
@@ -211,12 +219,12 @@ pub borrow_count-released_on : (c : Channel) (name : ℕ) → borrow_count (rele
 borrow_count-released_on c name = rw (length-append c.released (name ∷ [])) (omega arith)
 
 pub is_borrowed-released_else : (c : Channel) (name other : ℕ) → name ≢ other →
-  is_borrowed (released_on c name) other ≡ is_borrowed c other
+    is_borrowed (released_on c name) other ≡ is_borrowed c other
 is_borrowed-released_else c name other apart =
     rw (occurrences-append other c.released (name ∷ []), occurrences_else other name [] apart, add-zero) refl
 
 pub is_borrowed-released_here : (c : Channel) (name : ℕ) → IsOrderly c → is_borrowed c name ≡ true →
-  is_borrowed (released_on c name) name ≡ false
+    is_borrowed (released_on c name) name ≡ false
 is_borrowed-released_here c name o borrowed =
     let split = occurrences-append name c.released (name ∷ []) in let here = occurrences_here name [] in
     let once = borrowed_once c name o borrowed in grind (arith, nat_tests)
@@ -224,17 +232,17 @@ is_borrowed-released_here c name o borrowed =
 -- ---- a reclaim
 
 pub completed-reclaimed_from : (c : Channel) (name : ℕ) (rest : List ℕ) → completed c ≡ name ∷ rest →
-  completed (reclaimed_from c (Some name)) ≡ rest
+    completed (reclaimed_from c (Some name)) ≡ rest
 completed-reclaimed_from c name rest e = rw length-append (drop_front (length c.reclaimed) c.released name rest e)
 
 pub weight-reclaimed_from : (c : Channel) (name : ℕ) (rest : List ℕ) (other : ℕ) → completed c ≡ name ∷ rest →
-  weight (reclaimed_from c (Some name)) other + occurrences other (name ∷ []) ≡ weight c other
+    weight (reclaimed_from c (Some name)) other + occurrences other (name ∷ []) ≡ weight c other
 weight-reclaimed_from c name rest other e =
     rw (completed-reclaimed_from c name rest e)
     (let first = ap (occurrences other) e in omega arith)
 
 pub orderly_reclaimed_from : (c : Channel) (name : ℕ) (rest : List ℕ) → IsOrderly c → completed c ≡ name ∷ rest →
-  IsOrderly (reclaimed_from c (Some name))
+    IsOrderly (reclaimed_from c (Some name))
 orderly_reclaimed_from c name rest o e = record {
   left_sent = o.left_sent;
   released_received = o.released_received;

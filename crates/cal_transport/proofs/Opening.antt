@@ -1,8 +1,7 @@
 -- A new transport stands for the first ledger.
-use Rattle.std.proofs.Common.{ℕ, zero, suc, ◌+◌, ◌-◌, ◌*◌, ◌/◌, ◌%◌, ◌^◌, ◌<◌, ◌≤◌, ◌≡◌, ◌≢◌, ◌⊎◌, inl, inr, max, Bool, true, false, cond, not, ◌||◌, ◌&&◌, nat_eq, nat_lt, nat_le, List, [], ◌∷◌, length, get_or, replicate, Option, Some, None, refl, sym, ap, ◌∙◌, subst, arith, zero-add}
+use Rattle.std.proofs.Common.{ℕ, zero, suc, ◌*◌, ◌/◌, ◌^◌, ◌<◌, ◌≤◌, ◌≡◌, max, Bool, true, false, cond, not, ◌||◌, ◌&&◌, nat_eq, nat_lt, nat_le, List, [], get_or, replicate, Option, Some, None, refl, sym, ap, ◌∙◌, subst, arith, zero-add}
 use Rattle.std.specs.Prelude.{IsTrue}
-use Rattle.std.specs.Int.{is_power_of_two, next_multiple_of}
-use Rattle.std.specs.List.{slice_get}
+use Rattle.std.specs.Int.{is_power_of_two}
 use Rattle.std.proofs.Math.Nat.{mod_self, zero-mod, zero-mul, mul-zero, sub-zero}
 use Rattle.std.proofs.lemmas.Bool.{true≢false}
 use Rattle.std.proofs.lemmas.Bool.Decides.{nat_tests}
@@ -12,17 +11,17 @@ use Rattle.std.specs.Option.{SomeIff}
 use Rattle.std.proofs.Math.Nat.{mul_comm, mul-div_cancel, mul-le-mul_left}
 use Rattle.cal_alloc.specs.Growth.{Buckets, padded_size, bucket_size_of}
 use Rattle.cal_alloc.specs.SizeAndAlignment.{SizeAndAlignment}
-use Rattle.cal_alloc.specs.Pool.{Pool, is_used, buckets_within, pool_fits, new_pool}
+use Rattle.cal_alloc.specs.Pool.{Pool, buckets_within, pool_fits, new_pool}
 use Rattle.cal_queue.specs.Queue.{Queue}
 use Rattle.cal_queue.specs.Queue as queue
-use Rattle.cal_queue.specs.UsedChunks.{UsedChunks, contains, none_used}
+use Rattle.cal_queue.specs.UsedChunks.{UsedChunks, none_used}
 use Rattle.cal_transport.specs.declared.entry.Entry.{Entry}
 use Rattle.cal_transport.specs.declared.settings.Settings.{Settings}
 use Rattle.cal_transport.specs.declared.settings.CreateCause.TheVariants.{BadLayout, SizeOutOfRange, SizeIsZero, InternalError}
 use Rattle.cal_transport.specs.Settings.{clamped, first_buckets, payload, completion_size, is_too_large, has_too_large_connection, create_cause, CanMake}
 use Rattle.cal_transport.specs.Built.{is_built}
 use Rattle.cal_transport.specs.Cause.{is_static}
-use Rattle.cal_transport.specs.Ledger.{Ledger, first_ledger, new_channel}
+use Rattle.cal_transport.specs.Ledger.{first_ledger, new_channel}
 use Rattle.cal_transport.specs.Parts.{Parts, Shown, Show, StandsFor, AreBuilt, ledger_of, first_pool}
 
 -- a number that divides is above 0 where the power of two is
@@ -53,8 +52,8 @@ can_make s none = go (is_power_of_two s.alignment) (is_too_large (first_buckets 
     refl refl refl refl refl none
   where
     go : (a b c d e : Bool) → is_power_of_two s.alignment ≡ a → is_too_large (first_buckets s) ≡ b → has_too_large_connection (clamped s) ≡ c →
-      nat_eq (payload (first_buckets s)) 0 ≡ d → nat_lt 4096 s.alignment ≡ e →
-      cond (not a) (Some BadLayout) (cond (b || c) (Some SizeOutOfRange) (cond d (Some SizeIsZero) (cond e (Some InternalError) None))) ≡ None → CanMake s
+        nat_eq (payload (first_buckets s)) 0 ≡ d → nat_lt 4096 s.alignment ≡ e →
+        cond (not a) (Some BadLayout) (cond (b || c) (Some SizeOutOfRange) (cond d (Some SizeIsZero) (cond e (Some InternalError) None))) ≡ None → CanMake s
     go true false false false false a b c d e q =
         let one = power_above s.alignment a in
         record {
@@ -170,7 +169,7 @@ within_is s can =
     let size : bucket_size_of s.size s.alignment ≡ padded_size s.size s.alignment = ap (λ n. padded_size n s.alignment) (max_one s.size can.size) in
     let above : 1 ≤ padded_size s.size s.alignment = padded_above s.size s.alignment can.size in
     let count : payload (first_buckets s) / padded_size s.size s.alignment ≡ s.count =
-      ap (λ n. n / padded_size s.size s.alignment) (mul_comm (padded_size s.size s.alignment) s.count) ∙ mul-div_cancel s.count above in
+    ap (λ n. n / padded_size s.size s.alignment) (mul_comm (padded_size s.size s.alignment) s.count) ∙ mul-div_cancel s.count above in
     ap (λ n. B n (payload (first_buckets s) / n)) size ∙ ap (B (padded_size s.size s.alignment)) count
 
 -- a bucket is no larger than the whole
@@ -178,20 +177,20 @@ bucket_small : (size count : ℕ) → 1 ≤ count → size * count ≤ 2 ^ 56 �
 bucket_small size count some small = let h = mul-le-mul_left size some in omega arith
 
 pub pool_fits_settings : (s : Settings) (memory : ℕ) (layout : SizeAndAlignment) → CanMake s → memory ≡ payload (first_buckets s) →
-  layout ≡ (record { size = s.size; alignment = s.alignment }) → IsTrue (pool_fits memory layout)
+    layout ≡ (record { size = s.size; alignment = s.alignment }) → IsTrue (pool_fits memory layout)
 pool_fits_settings s memory layout can m l =
     subst (λ x. IsTrue (pool_fits x layout)) (sym m) (subst (λ x. IsTrue (pool_fits (payload (first_buckets s)) x)) (sym l)
-      (let whole = can.payload in let few = can.few in
-       let small = bucket_small (padded_size s.size s.alignment) s.count can.count can.payload in
-       go (payload (first_buckets s)) (buckets_within (payload (first_buckets s)) (record { size = s.size; alignment = s.alignment })) (first_buckets s) (within_is s can) whole small few))
+    (let whole = can.payload in let few = can.few in
+    let small = bucket_small (padded_size s.size s.alignment) s.count can.count can.payload in
+    go (payload (first_buckets s)) (buckets_within (payload (first_buckets s)) (record { size = s.size; alignment = s.alignment })) (first_buckets s) (within_is s can) whole small few))
   where
     go : (whole : ℕ) (made first : Buckets) → made ≡ first → whole ≤ 2 ^ 56 → first.size ≤ 2 ^ 56 → first.count < 2 ^ 32 →
-      (nat_le whole (2 ^ 56) && (nat_lt made.size (2 ^ 64) && nat_lt made.count (2 ^ 32))) ≡ true
+        (nat_le whole (2 ^ 56) && (nat_lt made.size (2 ^ 64) && nat_lt made.count (2 ^ 32))) ≡ true
     go whole made first e a b c = subst (λ x. (nat_le whole (2 ^ 56) && (nat_lt x.size (2 ^ 64) && nat_lt x.count (2 ^ 32))) ≡ true) (sym e) (grind (arith, nat_tests))
 
 pub pool_is_first : (s : Settings) (memory : ℕ) (layout : SizeAndAlignment) (made ready : Pool) → CanMake s → memory ≡ payload (first_buckets s) →
-  layout ≡ (record { size = s.size; alignment = s.alignment }) → made ≡ new_pool 4096 memory layout → ready ≡ (record made { is_ready = true }) →
-  ready ≡ first_pool s
+    layout ≡ (record { size = s.size; alignment = s.alignment }) → made ≡ new_pool 4096 memory layout → ready ≡ (record made { is_ready = true }) →
+    ready ≡ first_pool s
 pool_is_first s memory layout made ready can m l new done =
     let P : Buckets → Pool = λ b. record { buckets = b; memory_alignment = 4096; used = replicate b.count false; is_ready = true } in
     let R : Pool → Pool = λ q. record q { is_ready = true } in
@@ -222,14 +221,14 @@ can_clamped s can = record {
 
 -- the parts that opening made show the first ledger
 pub opened : (s settings : Settings) (pool : Pool) (memory : List ℕ) (submissions completions : Queue) (used : UsedChunks) (owners : List ℕ) (entries : List Entry) (room : ℕ) →
-  IsTrue (is_built s) → CanMake s → settings ≡ clamped s → pool ≡ first_pool settings → memory ≡ replicate (payload (first_buckets settings)) 0 →
-  submissions ≡ queue.empty settings.buffer → completions ≡ queue.empty (completion_size settings) → used ≡ none_used settings.samples →
-  entries ≡ [] → owners ≡ replicate settings.count 0 →
-  StandsFor (record { settings = settings; pool = pool; memory = memory; submissions = submissions; completions = completions; used = used; borrowed = 0; entries = entries; owners = owners; room = room })
+    IsTrue (is_built s) → CanMake s → settings ≡ clamped s → pool ≡ first_pool settings → memory ≡ replicate (payload (first_buckets settings)) 0 →
+    submissions ≡ queue.empty settings.buffer → completions ≡ queue.empty (completion_size settings) → used ≡ none_used settings.samples →
+    entries ≡ [] → owners ≡ replicate settings.count 0 →
+    StandsFor (record { settings = settings; pool = pool; memory = memory; submissions = submissions; completions = completions; used = used; borrowed = 0; entries = entries; owners = owners; room = room })
     (first_ledger s)
 opened s settings pool memory submissions completions used owners entries room built can e a b d f g h i =
     let T : Settings → Pool → List ℕ → Queue → Queue → UsedChunks → List Entry → List ℕ → Type 0 = λ st po me su co us en ow.
-      StandsFor (record { settings = st; pool = po; memory = me; submissions = su; completions = co; used = us; borrowed = 0; entries = en; owners = ow; room = room }) (first_ledger s) in
+    StandsFor (record { settings = st; pool = po; memory = me; submissions = su; completions = co; used = us; borrowed = 0; entries = en; owners = ow; room = room }) (first_ledger s) in
     let c : Settings = clamped s in
     subst (λ x. T settings x memory submissions completions used entries owners) (sym (a ∙ ap first_pool e))
     (subst (λ x. T settings (first_pool c) x submissions completions used entries owners) (sym (b ∙ ap (λ y. replicate (payload (first_buckets y)) 0) e))

@@ -1,68 +1,63 @@
 -- A reclaim is a step.
-use Rattle.std.proofs.Common.{ℕ, ◌+◌, ◌-◌, ◌*◌, ◌/◌, ◌^◌, ◌<◌, ◌≤◌, ◌≡◌, ◌≢◌, ◌⊎◌, inl, inr, Bool, true, false, cond, not, ◌||◌, nat_eq, nat_lt, nat_le, List, [], ◌∷◌, ◌++◌, length, take, drop, map, set, get_or, Option, Some, None, refl, sym, ap, ◌∙◌, subst, arith, length-append, length-drop}
-use Rattle.std.specs.List.{slice_get, find}
-use Rattle.std.proofs.lemmas.Bool.{cases_lt, true≢false}
-use Rattle.std.proofs.lemmas.Bool.Decides.{nat_tests}
-use Rattle.std.proofs.lemmas.List.{map-append, length-map, append-nil, length-set}
-use Rattle.cal_alloc.specs.Pool.{Pool, is_used, given_back, IsUsedBucket}
-use Rattle.cal_alloc.specs.PointerOffset.{pointer_offset, offset_of}
-use Rattle.cal_queue.specs.Queue.{Queue, is_full, oldest, pushed, popped}
-use Rattle.cal_queue.specs.UsedChunks.{UsedChunks, contains, removed, capacity_of}
+use Rattle.std.proofs.Common.{ℕ, ◌/◌, ◌<◌, ◌≤◌, ◌≡◌, Bool, true, false, cond, ◌||◌, nat_lt, List, [], ◌∷◌, drop, map, Some, None, refl, sym, ap, ◌∙◌, subst, arith, length-drop}
+use Rattle.std.specs.List.{slice_get}
+use Rattle.std.proofs.lemmas.List.{append-nil, length-set}
+use Rattle.cal_alloc.specs.Pool.{Pool, given_back, IsUsedBucket}
+use Rattle.cal_alloc.specs.PointerOffset.{offset_of}
+use Rattle.cal_queue.specs.Queue.{Queue, oldest, popped}
+use Rattle.cal_queue.specs.UsedChunks.{UsedChunks, removed, capacity_of}
 use Rattle.cal_transport.specs.declared.entry.Entry.{Entry}
-use Rattle.cal_transport.specs.declared.entry.Found.{Found}
 use Rattle.cal_transport.specs.declared.command.Command.TheVariants as command
 use Rattle.cal_transport.specs.declared.reply.Slot.{Slot}
-use Rattle.cal_transport.specs.declared.reply.Reply.TheVariants.{Shown as Bytes, Released, Reclaimed, Discarded, Refused}
-use Rattle.cal_transport.specs.declared.reply.Refusal.{Refusal}
-use Rattle.cal_transport.specs.declared.reply.Refusal.TheVariants.{OutsideConnection, OutsideChunk, NotBorrowed, NotLoaned, RetrieveBufferFull}
-use Rattle.cal_transport.specs.Settings.{completion_size}
-use Rattle.cal_transport.specs.Ledger.{Ledger, Chunk, Channel, if_loaned, channel_at, buckets_at, queued, completed, is_borrowed, borrow_count, is_in_transit, received, occurrences}
-use Rattle.cal_transport.specs.Cause.{cause, read_cause, release_cause, reclaim_cause, discard_cause}
-use Rattle.cal_transport.specs.Step.{released_on, reclaimed_from, front, slot_named, shown_bytes, changed, changed_chunk}
-use Rattle.cal_transport.specs.Entry.{IsUnnamed, IsFound, LeadsToEntry}
-use Rattle.cal_transport.specs.Parts.{Parts, Shown, Show, Does, IsOrderly, ledger_of, entry_of, lives, weight, pointer_to, bucket_named, bytes_at}
-use Rattle.cal_transport.specs.Rules.{read_rule, release_rule, DoesAnywhere}
+use Rattle.cal_transport.specs.declared.reply.Reply.TheVariants.{Reclaimed, Refused}
+use Rattle.cal_transport.specs.declared.reply.Refusal.TheVariants.{OutsideConnection}
+use Rattle.cal_transport.specs.Ledger.{Channel, channel_at, completed, is_in_transit, occurrences}
+use Rattle.cal_transport.specs.Cause.{reclaim_cause}
+use Rattle.cal_transport.specs.Step.{reclaimed_from, front, slot_named, changed}
+use Rattle.cal_transport.specs.Entry.{LeadsToEntry}
+use Rattle.cal_transport.specs.Parts.{Parts, Shown, Show, Does, ledger_of, entry_of, lives, weight, pointer_to}
+use Rattle.cal_transport.specs.Rules.{DoesAnywhere}
 use Rattle.cal_transport.proofs.Lists.{set_there}
-use Rattle.cal_transport.proofs.Names.{is_in_transit-weight, occurrences_here, occurrences_else, completed-released_on, weight-released_on, borrow_count-released_on, borrowed_once, fewer_released, is_borrowed-released_else, is_borrowed-released_here, orderly_released_on, completed-reclaimed_from, weight-reclaimed_from, orderly_reclaimed_from}
-use Rattle.cal_transport.proofs.Update.{Changes, changed_shown, shows_changed, names_apart, loaned_lives, transit_lives, entry_at, bucket_within}
-use Rattle.cal_transport.proofs.Steps.{refused, done, IsStep, unnamed, found_chunk, IsChunk, changed_chunk-at, entry_within, IsWithin}
-use Rattle.cal_transport.proofs.Changing.{le_true, le_false, le_when, bucket_named-at, removed_here, removed_else, HasMark, kept_or_freed, offset_of-pointer, pointer_used}
+use Rattle.cal_transport.proofs.Names.{is_in_transit-weight, occurrences_here, occurrences_else, completed-reclaimed_from, weight-reclaimed_from, orderly_reclaimed_from}
+use Rattle.cal_transport.proofs.Update.{Changes, changed_shown, shows_changed, transit_lives, entry_at, bucket_within}
+use Rattle.cal_transport.proofs.Steps.{refused, done}
+use Rattle.cal_transport.proofs.Changing.{le_true, le_false, removed_here, removed_else, HasMark, kept_or_freed, pointer_used}
 use Rattle.cal_transport.proofs.Receiving.{IsFront, front_of, pointed_bucket, leads, led, slot_at, nothing_there, map_nothing}
 
 pub reclaim_outside : (p : Parts) (channel : ℕ) → p.settings.channels ≤ channel →
-  DoesAnywhere p (command.Reclaim channel) (Refused OutsideConnection) p
+    DoesAnywhere p (command.Reclaim channel) (Refused OutsideConnection) p
 reclaim_outside p channel out place = refused p place (command.Reclaim channel) OutsideConnection (λ w h.
-  rw (le_true p.settings.channels channel out) refl)
+    rw (le_true p.settings.channels channel out) refl)
 
 reclaim_cause_is : (p : Parts) (w : Shown) (channel : ℕ) → channel < p.settings.channels → reclaim_cause (ledger_of p w) channel ≡ None
 reclaim_cause_is p w channel there = rw (le_false p.settings.channels channel there) refl
 
 pub reclaimed_none : (p : Parts) (channel : ℕ) → channel < p.settings.channels → slice_get p.completions.values 0 ≡ None →
-  DoesAnywhere p (command.Reclaim channel) (Reclaimed None) (record p { completions = popped p.completions })
+    DoesAnywhere p (command.Reclaim channel) (Reclaimed None) (record p { completions = popped p.completions })
 reclaimed_none p channel there first place =
     let empty = nothing_there p.completions.values first in
     let stays : popped p.completions ≡ p.completions =
-      ap (λ vs. record p.completions { values = drop 1 vs }) empty ∙ ap (λ vs. record p.completions { values = vs }) (sym empty) in
+    ap (λ vs. record p.completions { values = drop 1 vs }) empty ∙ ap (λ vs. record p.completions { values = vs }) (sym empty) in
     subst (λ q. Does p place (command.Reclaim channel) (Reclaimed None) (record p { completions = q })) (sym stays)
     (done p p place (command.Reclaim channel) (Reclaimed None) (λ w h.
-      let zero : channel ≡ 0 = (let b = h.settings.one_channel in omega arith) in
-      let none = map_nothing (pointer_to p.pool.buckets.size w.chunks) (completed w.channel) (sym h.completions ∙ empty) in
-      record {
-        none = reclaim_cause_is p w channel there;
-        owes = subst (λ k. Reclaimed None ≡ Reclaimed (slot_named (ledger_of p w) (front (completed (channel_at (ledger_of p w) k))))) (sym zero)
+    let zero : channel ≡ 0 = (let b = h.settings.one_channel in omega arith) in
+    let none = map_nothing (pointer_to p.pool.buckets.size w.chunks) (completed w.channel) (sym h.completions ∙ empty) in
+    record {
+      none = reclaim_cause_is p w channel there;
+      owes = subst (λ k. Reclaimed None ≡ Reclaimed (slot_named (ledger_of p w) (front (completed (channel_at (ledger_of p w) k))))) (sym zero)
           (ap (λ names. Reclaimed (slot_named (ledger_of p w) (front names))) (sym none));
-        shown = w;
-        made = ap (λ k. changed (ledger_of p w) place (command.Reclaim k) (Reclaimed None)) zero
+      shown = w;
+      made = ap (λ k. changed (ledger_of p w) place (command.Reclaim k) (Reclaimed None)) zero
           ∙ ap (λ names. record (ledger_of p w) { channels = reclaimed_from w.channel (front names) ∷ [] }) none
           ∙ ap (λ l. record (ledger_of p w) { channels = record w.channel { reclaimed = l } ∷ [] }) (append-nil w.channel.reclaimed);
-        show = h;
-      }))
+      show = h;
+    }))
 
 completed_weighs : (c : Channel) (name : ℕ) (rest : List ℕ) → completed c ≡ name ∷ rest → 0 < weight c name
 completed_weighs c name rest e = let first = ap (occurrences name) e ∙ occurrences_here name rest in omega arith
 
 pub completion_front : (p : Parts) (w : Shown) (value : ℕ) → Show p w → slice_get p.completions.values 0 ≡ Some value →
-  (rest : List ℕ) × IsFront p w (completed w.channel) rest value
+    (rest : List ℕ) × IsFront p w (completed w.channel) rest value
 completion_front p w value h first = front_of p w (completed w.channel) p.completions.values value h h.completions first (completed_weighs w.channel)
 
 abbrev pub reclaimed_parts : Parts → ℕ → Pool → Parts
@@ -73,8 +68,8 @@ reclaimed_parts p bucket pool = record p {
 }
 
 reclaimed_changes : (p : Parts) (w : Shown) (rest : List ℕ) (value : ℕ) (pool : Pool) → Show p w → (f : IsFront p w (completed w.channel) rest value) →
-  HasMark p.pool pool f.chunk.bucket f.chunk.loaned →
-  Changes p (reclaimed_parts p f.chunk.bucket pool) w f.index f.chunk f.chunk (reclaimed_from w.channel (Some f.chunk.name))
+    HasMark p.pool pool f.chunk.bucket f.chunk.loaned →
+    Changes p (reclaimed_parts p f.chunk.bucket pool) w f.index f.chunk f.chunk (reclaimed_from w.channel (Some f.chunk.name))
 reclaimed_changes p w rest value pool h f mark =
     let name = f.chunk.name in
     let c' : Channel = reclaimed_from w.channel (Some name) in
@@ -116,7 +111,7 @@ reclaimed_changes p w rest value pool h f mark =
       bytes = housed.bytes;
       submissions = h.submissions;
       completions = ap (drop 1) h.completions ∙ ap (λ names. drop 1 (map (pointer_to p.pool.buckets.size w.chunks) names)) f.names_are
-        ∙ ap (map (pointer_to p.pool.buckets.size w.chunks)) (sym (completed-reclaimed_from w.channel name rest f.names_are));
+          ∙ ap (map (pointer_to p.pool.buckets.size w.chunks)) (sym (completed-reclaimed_from w.channel name rest f.names_are));
       borrowed = h.borrowed;
       orderly = orderly_reclaimed_from w.channel name rest h.orderly f.names_are;
       other_weights = λ other apart. (let e = occurrences_else other name [] (λ q. apart (sym q)) in let r = weight-reclaimed_from w.channel name rest other f.names_are in omega arith);
@@ -133,51 +128,51 @@ reclaimed_changes p w rest value pool h f mark =
     or_false false = refl
 
 pub reclaimed_some : (p : Parts) (channel value index bucket : ℕ) (entry : Entry) (pool : Pool) → channel < p.settings.channels →
-  slice_get p.completions.values 0 ≡ Some value → bucket ≡ offset_of value / p.pool.buckets.size →
-  slice_get p.owners bucket ≡ Some index → slice_get p.entries index ≡ Some entry →
-  pool ≡ cond entry.loaned p.pool (given_back p.pool value) →
-  DoesAnywhere p (command.Reclaim channel) (Reclaimed (Some (record { chunk = entry.name; segment = 0; place = offset_of value }))) (reclaimed_parts p bucket pool)
+    slice_get p.completions.values 0 ≡ Some value → bucket ≡ offset_of value / p.pool.buckets.size →
+    slice_get p.owners bucket ≡ Some index → slice_get p.entries index ≡ Some entry →
+    pool ≡ cond entry.loaned p.pool (given_back p.pool value) →
+    DoesAnywhere p (command.Reclaim channel) (Reclaimed (Some (record { chunk = entry.name; segment = 0; place = offset_of value }))) (reclaimed_parts p bucket pool)
 reclaimed_some p channel value index bucket entry pool there first at owner stands freed place =
     let slot : Slot = record { chunk = entry.name; segment = 0; place = offset_of value } in
     done p (reclaimed_parts p bucket pool) place (command.Reclaim channel) (Reclaimed (Some slot)) (λ w h.
-      let g = completion_front p w value h first in
-      let f = g.1 in
-      let zero : channel ≡ 0 = (let b = h.settings.one_channel in omega arith) in
-      let here = at ∙ pointed_bucket p w (completed w.channel) g.0 value p.pool.buckets.size h f refl in
-      let l = led p w (completed w.channel) g.0 value index entry h f (ap (slice_get p.owners) (sym here) ∙ owner) stands in
-      let housed = h.housed f.index f.chunk f.stands (transit_lives w.channel f.chunk f.weighs) in
-      let placed = h.placed f.index f.chunk f.stands in
-      let loaned : entry.loaned ≡ f.chunk.loaned = ap (λ e. e.loaned) l.1 in
-      let mark : HasMark p.pool pool f.chunk.bucket f.chunk.loaned =
-        subst (λ q. HasMark p.pool q f.chunk.bucket f.chunk.loaned) (sym (freed ∙ ap (λ b. cond b p.pool (given_back p.pool value)) loaned))
-          (kept_or_freed p.pool f.chunk.bucket value f.chunk.loaned h.ready.size (let m = h.ready.marks in let b = placed.bucket in omega arith) housed.marked f.value_is) in
-      let c' : Channel = reclaimed_from w.channel (Some f.chunk.name) in
-      record {
-        none = reclaim_cause_is p w channel there;
-        owes = subst (λ k. Reclaimed (Some slot) ≡ Reclaimed (slot_named (ledger_of p w) (front (completed (channel_at (ledger_of p w) k))))) (sym zero)
+    let g = completion_front p w value h first in
+    let f = g.1 in
+    let zero : channel ≡ 0 = (let b = h.settings.one_channel in omega arith) in
+    let here = at ∙ pointed_bucket p w (completed w.channel) g.0 value p.pool.buckets.size h f refl in
+    let l = led p w (completed w.channel) g.0 value index entry h f (ap (slice_get p.owners) (sym here) ∙ owner) stands in
+    let housed = h.housed f.index f.chunk f.stands (transit_lives w.channel f.chunk f.weighs) in
+    let placed = h.placed f.index f.chunk f.stands in
+    let loaned : entry.loaned ≡ f.chunk.loaned = ap (λ e. e.loaned) l.1 in
+    let mark : HasMark p.pool pool f.chunk.bucket f.chunk.loaned =
+    subst (λ q. HasMark p.pool q f.chunk.bucket f.chunk.loaned) (sym (freed ∙ ap (λ b. cond b p.pool (given_back p.pool value)) loaned))
+    (kept_or_freed p.pool f.chunk.bucket value f.chunk.loaned h.ready.size (let m = h.ready.marks in let b = placed.bucket in omega arith) housed.marked f.value_is) in
+    let c' : Channel = reclaimed_from w.channel (Some f.chunk.name) in
+    record {
+      none = reclaim_cause_is p w channel there;
+      owes = subst (λ k. Reclaimed (Some slot) ≡ Reclaimed (slot_named (ledger_of p w) (front (completed (channel_at (ledger_of p w) k))))) (sym zero)
           (ap Reclaimed (sym (slot_at p w (completed w.channel) g.0 value index entry p.pool.buckets.size h f l.1)));
-        shown = changed_shown w f.index f.chunk c' w.shown;
-        made = ap (λ k. changed (ledger_of p w) place (command.Reclaim k) (Reclaimed (Some slot))) zero
+      shown = changed_shown w f.index f.chunk c' w.shown;
+      made = ap (λ k. changed (ledger_of p w) place (command.Reclaim k) (Reclaimed (Some slot))) zero
           ∙ ap (λ names. record (ledger_of p w) { channels = reclaimed_from w.channel (front names) ∷ [] }) f.names_are
           ∙ ap (λ chunks. record (ledger_of p w) { channels = c' ∷ []; chunks = chunks }) (sym (set_there w.chunks f.index f.chunk f.stands))
           ∙ ap (λ b. record (ledger_of p (changed_shown w f.index f.chunk c' w.shown)) { segments = b ∷ [] }) (sym mark.buckets);
-        show = subst (λ b. Show (reclaimed_parts p b pool) (changed_shown w f.index f.chunk c' w.shown)) (sym here)
+      show = subst (λ b. Show (reclaimed_parts p b pool) (changed_shown w f.index f.chunk c' w.shown)) (sym here)
           (shows_changed p (reclaimed_parts p f.chunk.bucket pool) w f.index f.chunk f.chunk c' w.shown h f.stands
-            (transit_lives w.channel f.chunk f.weighs) (reclaimed_changes p w g.0 value pool h f mark));
-      })
+          (transit_lives w.channel f.chunk f.weighs) (reclaimed_changes p w g.0 value pool h f mark));
+    })
 
 -- the same, as the code has it: by what each call answered and left
 pub reclaimed_by : (p : Parts) (channel value index bucket at : ℕ) (entry : Entry) (completions : Queue) (used : UsedChunks) (pool : Pool) → channel < p.settings.channels →
-  Some value ≡ oldest p.completions → bucket ≡ offset_of value / p.pool.buckets.size →
-  slice_get p.owners bucket ≡ Some index → slice_get p.entries index ≡ Some entry → at ≡ offset_of value → completions ≡ popped p.completions →
-  used ≡ removed p.used bucket → pool ≡ cond entry.loaned p.pool (given_back p.pool value) →
-  DoesAnywhere p (command.Reclaim channel) (Reclaimed (Some (record { chunk = entry.name; segment = 0; place = at })))
+    Some value ≡ oldest p.completions → bucket ≡ offset_of value / p.pool.buckets.size →
+    slice_get p.owners bucket ≡ Some index → slice_get p.entries index ≡ Some entry → at ≡ offset_of value → completions ≡ popped p.completions →
+    used ≡ removed p.used bucket → pool ≡ cond entry.loaned p.pool (given_back p.pool value) →
+    DoesAnywhere p (command.Reclaim channel) (Reclaimed (Some (record { chunk = entry.name; segment = 0; place = at })))
     (record p { completions = completions; used = used; pool = pool })
 reclaimed_by p channel value index bucket at entry completions used pool there first spot owner stands placed left marked freed place =
     let Q : ℕ → Queue → UsedChunks → Type 0 = λ a q u. Does p place (command.Reclaim channel) (Reclaimed (Some (record { chunk = entry.name; segment = 0; place = a })))
-      (record p { completions = q; used = u; pool = pool }) in
+    (record p { completions = q; used = u; pool = pool }) in
     subst (λ a. Q a completions used) (sym placed) (subst (λ q. Q (offset_of value) q used) (sym left) (subst (Q (offset_of value) (popped p.completions)) (sym marked)
-      (reclaimed_some p channel value index bucket entry pool there (sym first) spot owner stands freed place)))
+    (reclaimed_some p channel value index bucket entry pool there (sym first) spot owner stands freed place)))
 
 -- what the code asks of the pointer that the queue gives: it leads to an entry, and names a used bucket
 pub record IsSpent (p : Parts) (value bucket : ℕ) : Type 0 where
@@ -186,7 +181,7 @@ pub record IsSpent (p : Parts) (value bucket : ℕ) : Type 0 where
   pub used : IsUsedBucket p.pool value
 
 pub reclaim_spends : (p : Parts) (w : Shown) (value bucket : ℕ) → Show p w → Some value ≡ oldest p.completions → bucket ≡ offset_of value / p.pool.buckets.size →
-  IsSpent p value bucket
+    IsSpent p value bucket
 reclaim_spends p w value bucket h first there =
     let g = completion_front p w value h (sym first) in
     let f = g.1 in

@@ -1,38 +1,35 @@
 -- A release is a step.
-use Rattle.std.proofs.Common.{ℕ, ◌+◌, ◌-◌, ◌*◌, ◌/◌, ◌^◌, ◌<◌, ◌≤◌, ◌≡◌, ◌≢◌, ◌⊎◌, inl, inr, Bool, true, false, cond, not, ◌||◌, nat_eq, nat_lt, nat_le, List, [], ◌∷◌, ◌++◌, length, take, drop, map, set, get_or, Option, Some, None, refl, sym, ap, ◌∙◌, subst, arith, length-append, length-drop}
-use Rattle.std.specs.List.{slice_get, find}
-use Rattle.std.proofs.lemmas.Bool.{cases_lt, true≢false}
+use Rattle.std.proofs.Common.{ℕ, ◌-◌, ◌*◌, ◌<◌, ◌≤◌, ◌≡◌, ◌≢◌, Bool, true, false, cond, not, nat_lt, nat_le, [], ◌∷◌, ◌++◌, length, map, set, Some, None, refl, sym, ap, ◌∙◌, subst, arith, length-append}
+use Rattle.std.specs.List.{slice_get}
+use Rattle.std.proofs.lemmas.Bool.{true≢false}
 use Rattle.std.specs.Bool.{OnTrue}
 use Rattle.std.proofs.lemmas.Bool.Decides.{nat_tests}
-use Rattle.std.proofs.lemmas.List.{map-append, length-map, append-nil, length-set}
-use Rattle.cal_alloc.specs.Pool.{Pool, is_used, given_back, IsUsedBucket}
-use Rattle.cal_alloc.specs.PointerOffset.{pointer_offset, offset_of}
-use Rattle.cal_queue.specs.Queue.{Queue, is_full, pushed, popped}
-use Rattle.cal_queue.specs.UsedChunks.{contains, removed, capacity_of}
+use Rattle.std.proofs.lemmas.List.{map-append, length-map}
+use Rattle.cal_alloc.specs.PointerOffset.{pointer_offset}
+use Rattle.cal_queue.specs.Queue.{Queue, is_full, pushed}
 use Rattle.cal_transport.specs.declared.entry.Entry.{Entry}
 use Rattle.cal_transport.specs.declared.entry.Found.{Found}
 use Rattle.cal_transport.specs.declared.command.Command.TheVariants as command
-use Rattle.cal_transport.specs.declared.reply.Slot.{Slot}
-use Rattle.cal_transport.specs.declared.reply.Reply.TheVariants.{Shown as Bytes, Released, Reclaimed, Discarded, Refused}
+use Rattle.cal_transport.specs.declared.reply.Reply.TheVariants.{Released, Refused}
 use Rattle.cal_transport.specs.declared.reply.Refusal.{Refusal}
-use Rattle.cal_transport.specs.declared.reply.Refusal.TheVariants.{OutsideConnection, OutsideChunk, NotBorrowed, NotLoaned, RetrieveBufferFull}
+use Rattle.cal_transport.specs.declared.reply.Refusal.TheVariants.{OutsideConnection, NotBorrowed, RetrieveBufferFull}
 use Rattle.cal_transport.specs.Settings.{completion_size}
-use Rattle.cal_transport.specs.Ledger.{Ledger, Chunk, Channel, if_loaned, channel_at, buckets_at, queued, completed, is_borrowed, borrow_count, is_in_transit, received, occurrences}
-use Rattle.cal_transport.specs.Cause.{cause, read_cause, release_cause, reclaim_cause, discard_cause}
-use Rattle.cal_transport.specs.Step.{released_on, reclaimed_from, front, slot_named, shown_bytes, changed, changed_chunk}
-use Rattle.cal_transport.specs.Entry.{IsUnnamed, IsFound, LeadsToEntry}
-use Rattle.cal_transport.specs.Parts.{Parts, Shown, Show, Does, IsOrderly, ledger_of, entry_of, lives, weight, pointer_to, bucket_named, bytes_at}
-use Rattle.cal_transport.specs.Rules.{read_rule, release_rule, DoesAnywhere}
+use Rattle.cal_transport.specs.Ledger.{Chunk, Channel, completed, is_borrowed}
+use Rattle.cal_transport.specs.Cause.{release_cause}
+use Rattle.cal_transport.specs.Step.{released_on, changed}
+use Rattle.cal_transport.specs.Entry.{IsUnnamed, IsFound}
+use Rattle.cal_transport.specs.Parts.{Parts, Shown, Show, Does, IsOrderly, ledger_of, entry_of, weight, pointer_to}
+use Rattle.cal_transport.specs.Rules.{release_rule, DoesAnywhere}
 use Rattle.cal_transport.proofs.Lists.{set_there}
-use Rattle.cal_transport.proofs.Names.{is_in_transit-weight, occurrences_here, occurrences_else, completed-released_on, weight-released_on, borrow_count-released_on, borrowed_once, fewer_released, is_borrowed-released_else, is_borrowed-released_here, orderly_released_on, completed-reclaimed_from, weight-reclaimed_from, orderly_reclaimed_from}
-use Rattle.cal_transport.proofs.Update.{Changes, changed_shown, shows_changed, names_apart, loaned_lives, transit_lives, entry_at, bucket_within}
-use Rattle.cal_transport.proofs.Steps.{refused, done, IsStep, unnamed, found_chunk, IsChunk, changed_chunk-at, entry_within, IsWithin}
-use Rattle.cal_transport.proofs.Changing.{le_true, le_false, le_when, bucket_named-at, removed_here, removed_else, HasMark, kept_or_freed, offset_of-pointer}
+use Rattle.cal_transport.proofs.Names.{is_in_transit-weight, completed-released_on, weight-released_on, borrow_count-released_on, borrowed_once, fewer_released, is_borrowed-released_else, is_borrowed-released_here, orderly_released_on}
+use Rattle.cal_transport.proofs.Update.{Changes, changed_shown, shows_changed, names_apart, transit_lives, entry_at, bucket_within}
+use Rattle.cal_transport.proofs.Steps.{refused, done, found_chunk}
+use Rattle.cal_transport.proofs.Changing.{le_true, le_false, bucket_named-at}
 
 pub release_outside : (p : Parts) (channel name : ℕ) → p.settings.channels ≤ channel →
-  DoesAnywhere p (command.Release channel name) (Refused OutsideConnection) p
+    DoesAnywhere p (command.Release channel name) (Refused OutsideConnection) p
 release_outside p channel name out place = refused p place (command.Release channel name) OutsideConnection (λ w h.
-  rw (le_true p.settings.channels channel out) refl)
+    rw (le_true p.settings.channels channel out) refl)
 
 -- a borrowed chunk is in transit
 pub borrowed_weighs : (c : Channel) (name : ℕ) → IsOrderly c → is_borrowed c name ≡ true → 0 < weight c name
@@ -45,13 +42,13 @@ unnamed_unborrowed p w name h none = go (is_borrowed w.channel name) refl
     go : (b : Bool) → is_borrowed w.channel name ≡ b → is_borrowed w.channel name ≡ false
     go false e = e
     go true e = (let k = h.known name (borrowed_weighs w.channel name h.orderly e) in
-      absurd (none k.index (entry_of w.channel k.chunk) (entry_at p w k.index k.chunk h k.stands) k.same_name))
+        absurd (none k.index (entry_of w.channel k.chunk) (entry_at p w k.index k.chunk h k.stands) k.same_name))
 
 pub release_unnamed : (p : Parts) (channel name : ℕ) → channel < p.settings.channels → IsUnnamed p.entries name →
-  DoesAnywhere p (command.Release channel name) (Refused NotBorrowed) p
+    DoesAnywhere p (command.Release channel name) (Refused NotBorrowed) p
 release_unnamed p channel name there none place = refused p place (command.Release channel name) NotBorrowed (λ w h.
-  let zero : channel ≡ 0 = (let b = h.settings.one_channel in omega arith) in
-  subst (λ k. release_cause (ledger_of p w) k name ≡ Some NotBorrowed) (sym zero)
+    let zero : channel ≡ 0 = (let b = h.settings.one_channel in omega arith) in
+    subst (λ k. release_cause (ledger_of p w) k name ≡ Some NotBorrowed) (sym zero)
     (rw (le_false p.settings.channels 0 (omega arith), unnamed_unborrowed p w name h none) refl))
 
 pub full_completions : (p : Parts) (w : Shown) → Show p w → nat_le (completion_size p.settings) (length (completed w.channel)) ≡ is_full p.completions
@@ -61,18 +58,18 @@ full_completions p w h =
     grind (arith, nat_tests)
 
 release_cause_is : (p : Parts) (w : Shown) (channel name : ℕ) (found : Found) → Show p w → channel < p.settings.channels → IsFound p.entries name found →
-  release_cause (ledger_of p w) channel name ≡ release_rule p found.entry
+    release_cause (ledger_of p w) channel name ≡ release_rule p found.entry
 release_cause_is p w channel name found h there is =
     let c = found_chunk p w name found h is in
     let zero : channel ≡ 0 = (let b = h.settings.one_channel in omega arith) in
     let borrowed : is_borrowed w.channel name ≡ found.entry.borrowed = ap (is_borrowed w.channel) (sym c.same_name) ∙ ap (λ e. e.borrowed) (sym c.entry_is) in
     subst (λ k. release_cause (ledger_of p w) k name ≡ release_rule p found.entry) (sym zero)
-      (rw (le_false p.settings.channels 0 (omega arith), borrowed, full_completions p w h) refl)
+    (rw (le_false p.settings.channels 0 (omega arith), borrowed, full_completions p w h) refl)
 
 pub release_refused : (p : Parts) (channel name : ℕ) (found : Found) (refusal : Refusal) → channel < p.settings.channels → IsFound p.entries name found →
-  release_rule p found.entry ≡ Some refusal → DoesAnywhere p (command.Release channel name) (Refused refusal) p
+    release_rule p found.entry ≡ Some refusal → DoesAnywhere p (command.Release channel name) (Refused refusal) p
 release_refused p channel name found refusal there is rule place = refused p place (command.Release channel name) refusal (λ w h.
-  release_cause_is p w channel name found h there is ∙ rule)
+    release_cause_is p w channel name found h there is ∙ rule)
 
 pub record MayRelease (p : Parts) (entry : Entry) : Type 0 where
   pub borrowed : entry.borrowed ≡ true
@@ -82,7 +79,7 @@ pub may_release : (p : Parts) (entry : Entry) → release_rule p entry ≡ None 
 may_release p entry rule = go entry.borrowed (is_full p.completions) refl refl rule
   where
     go : (a b : Bool) → entry.borrowed ≡ a → is_full p.completions ≡ b →
-      cond (not a) (Some NotBorrowed) (cond b (Some RetrieveBufferFull) None) ≡ None → MayRelease p entry
+        cond (not a) (Some NotBorrowed) (cond b (Some RetrieveBufferFull) None) ≡ None → MayRelease p entry
     go true false a b q = record { borrowed = a; room = b }
     go true true a b q = cc
     go false b a c q = cc
@@ -95,8 +92,8 @@ released_parts p i entry = record p {
 }
 
 released_changes : (p : Parts) (w : Shown) (i : ℕ) (chunk : Chunk) → Show p w → slice_get w.chunks i ≡ Some chunk →
-  MayRelease p (entry_of w.channel chunk) →
-  Changes p (released_parts p i (entry_of w.channel chunk)) w i chunk chunk (released_on w.channel chunk.name)
+    MayRelease p (entry_of w.channel chunk) →
+    Changes p (released_parts p i (entry_of w.channel chunk)) w i chunk chunk (released_on w.channel chunk.name)
 released_changes p w i chunk h stands may =
     let name = chunk.name in
     let c' : Channel = released_on w.channel name in
@@ -106,7 +103,7 @@ released_changes p w i chunk h stands may =
     let lives_on = transit_lives c' chunk (let a : 0 < weight c' name = omega arith in a) in
     let apart = λ (j : ℕ) (x : Chunk) (there : slice_get w.chunks j ≡ Some x) (elsewhere : j ≢ i). names_apart p w j i x chunk h there stands elsewhere in
     let pointer : pointer_to p.pool.buckets.size w.chunks name ≡ pointer_offset (chunk.bucket * p.pool.buckets.size) 0
-      = ap (λ b. pointer_offset (b * p.pool.buckets.size) 0) (bucket_named-at w.chunks i chunk stands apart) in
+    = ap (λ b. pointer_offset (b * p.pool.buckets.size) 0) (bucket_named-at w.chunks i chunk stands apart) in
     record {
       settings = refl;
       buckets = refl;
@@ -125,10 +122,10 @@ released_changes p w i chunk h stands may =
         submissions_fit = h.ready.submissions_fit;
         completions = h.ready.completions;
         completions_fit = (let full = may.room in let fit = h.ready.completions_fit in
-          let long = length-append p.completions.values (pointer_offset (chunk.bucket * p.pool.buckets.size) 0 ∷ []) in grind (arith, nat_tests));
+            let long = length-append p.completions.values (pointer_offset (chunk.bucket * p.pool.buckets.size) 0 ∷ []) in grind (arith, nat_tests));
       };
       entries = ap (λ b. set p.entries i (record { name = chunk.name; bucket = chunk.bucket; loaned = chunk.loaned; sent = chunk.sent; borrowed = b }))
-        (sym (is_borrowed-released_here w.channel name h.orderly may.borrowed));
+          (sym (is_borrowed-released_here w.channel name h.orderly may.borrowed));
       other_marks = λ bucket apart. refl;
       mark = housed.marked ∙ sym lives_on;
       other_uses = λ bucket apart. refl;
@@ -138,9 +135,9 @@ released_changes p w i chunk h stands may =
       bytes = housed.bytes;
       submissions = h.submissions;
       completions = ap (λ vs. vs ++ pointer_offset (chunk.bucket * p.pool.buckets.size) 0 ∷ []) h.completions
-        ∙ ap (λ x. map (pointer_to p.pool.buckets.size w.chunks) (completed w.channel) ++ x ∷ []) (sym pointer)
-        ∙ sym (map-append (pointer_to p.pool.buckets.size w.chunks) (completed w.channel) (name ∷ []))
-        ∙ ap (map (pointer_to p.pool.buckets.size w.chunks)) (sym (completed-released_on w.channel name h.orderly));
+          ∙ ap (λ x. map (pointer_to p.pool.buckets.size w.chunks) (completed w.channel) ++ x ∷ []) (sym pointer)
+          ∙ sym (map-append (pointer_to p.pool.buckets.size w.chunks) (completed w.channel) (name ∷ []))
+          ∙ ap (map (pointer_to p.pool.buckets.size w.chunks)) (sym (completed-released_on w.channel name h.orderly));
       borrowed = ap (λ n. n - 1) h.borrowed ∙ sym (borrow_count-released_on w.channel name);
       orderly = orderly_released_on w.channel name h.orderly may.borrowed;
       other_weights = λ other apart. weight-released_on w.channel name other h.orderly may.borrowed;
@@ -153,24 +150,24 @@ released_changes p w i chunk h stands may =
     }
 
 pub released : (p : Parts) (channel name : ℕ) (found : Found) → channel < p.settings.channels → IsFound p.entries name found →
-  release_rule p found.entry ≡ None → DoesAnywhere p (command.Release channel name) Released (released_parts p found.index found.entry)
+    release_rule p found.entry ≡ None → DoesAnywhere p (command.Release channel name) Released (released_parts p found.index found.entry)
 released p channel name found there is rule place = done p (released_parts p found.index found.entry) place (command.Release channel name) Released (λ w h.
-  let c = found_chunk p w name found h is in
-  let may = subst (MayRelease p) c.entry_is (may_release p found.entry rule) in
-  let zero : channel ≡ 0 = (let b = h.settings.one_channel in omega arith) in
-  let c' : Channel = released_on w.channel c.chunk.name in
-  record {
-    none = release_cause_is p w channel name found h there is ∙ rule;
-    owes = refl;
-    shown = changed_shown w found.index c.chunk c' w.shown;
-    made = ap (λ k. changed (ledger_of p w) place (command.Release k name) Released) zero
-      ∙ ap (λ n. record (ledger_of p w) { channels = released_on w.channel n ∷ [] }) (sym c.same_name)
-      ∙ ap (λ chunks. record (ledger_of p w) { channels = c' ∷ []; chunks = chunks }) (sym (set_there w.chunks found.index c.chunk c.stands));
-    show = (let Q : Entry → Type 0 = λ e. Show (released_parts p found.index e) (changed_shown w found.index c.chunk c' w.shown) in
-      subst Q (sym c.entry_is) (shows_changed p (released_parts p found.index (entry_of w.channel c.chunk)) w found.index c.chunk c.chunk c' w.shown h c.stands
-        (transit_lives w.channel c.chunk (borrowed_weighs w.channel c.chunk.name h.orderly may.borrowed))
-        (released_changes p w found.index c.chunk h c.stands may)));
-  })
+    let c = found_chunk p w name found h is in
+    let may = subst (MayRelease p) c.entry_is (may_release p found.entry rule) in
+    let zero : channel ≡ 0 = (let b = h.settings.one_channel in omega arith) in
+    let c' : Channel = released_on w.channel c.chunk.name in
+    record {
+      none = release_cause_is p w channel name found h there is ∙ rule;
+      owes = refl;
+      shown = changed_shown w found.index c.chunk c' w.shown;
+      made = ap (λ k. changed (ledger_of p w) place (command.Release k name) Released) zero
+          ∙ ap (λ n. record (ledger_of p w) { channels = released_on w.channel n ∷ [] }) (sym c.same_name)
+          ∙ ap (λ chunks. record (ledger_of p w) { channels = c' ∷ []; chunks = chunks }) (sym (set_there w.chunks found.index c.chunk c.stands));
+      show = (let Q : Entry → Type 0 = λ e. Show (released_parts p found.index e) (changed_shown w found.index c.chunk c' w.shown) in
+          subst Q (sym c.entry_is) (shows_changed p (released_parts p found.index (entry_of w.channel c.chunk)) w found.index c.chunk c.chunk c' w.shown h c.stands
+          (transit_lives w.channel c.chunk (borrowed_weighs w.channel c.chunk.name h.orderly may.borrowed))
+          (released_changes p w found.index c.chunk h c.stands may)));
+    })
 
 -- where a chunk is borrowed, one is
 pub borrows_some : (p : Parts) (w : Shown) (name : ℕ) (found : Found) → Show p w → IsFound p.entries name found → found.entry.borrowed ≡ true → 1 ≤ p.borrowed
@@ -182,16 +179,16 @@ borrows_some p w name found h is borrowed =
 
 -- the same, as the code has it: by what each call left
 pub released_by : (p : Parts) (channel name : ℕ) (found : Found) (value : ℕ) (completions : Queue) → channel < p.settings.channels → IsFound p.entries name found →
-  None ≡ release_rule p found.entry → value ≡ pointer_offset (found.entry.bucket * p.pool.buckets.size) 0 →
-  completions ≡ pushed p.completions value →
-  DoesAnywhere p (command.Release channel name) Released (record (released_parts p found.index found.entry) { completions = completions })
+    None ≡ release_rule p found.entry → value ≡ pointer_offset (found.entry.bucket * p.pool.buckets.size) 0 →
+    completions ≡ pushed p.completions value →
+    DoesAnywhere p (command.Release channel name) Released (record (released_parts p found.index found.entry) { completions = completions })
 released_by p channel name found value completions there is rule pointer left place =
     let Q : Queue → Type 0 = λ q. Does p place (command.Release channel name) Released (record (released_parts p found.index found.entry) { completions = q }) in
     subst Q (sym (left ∙ ap (pushed p.completions) pointer)) (released p channel name found there is (sym rule) place)
 
 -- a push that has room joins
 pub release_joins : (joined : Bool) (old new : Queue) (value : ℕ) (p : Parts) (entry : Entry) → None ≡ release_rule p entry →
-  joined ≡ not (is_full p.completions) → OnTrue joined (new ≡ pushed p.completions value) → new ≡ pushed p.completions value
+    joined ≡ not (is_full p.completions) → OnTrue joined (new ≡ pushed p.completions value) → new ≡ pushed p.completions value
 release_joins true old new value p entry rule room e = e
 release_joins false old new value p entry rule room e = (let may = may_release p entry (sym rule) in
-  absurd (true≢false (sym (room ∙ ap not may.room))))
+    absurd (true≢false (sym (room ∙ ap not may.room))))

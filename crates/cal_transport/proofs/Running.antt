@@ -1,9 +1,8 @@
 -- Whole runs: what each answer keeps, and how steps make a run.
-use Rattle.std.proofs.Common.{ℕ, zero, suc, ◌+◌, ◌-◌, ◌<◌, ◌≤◌, ◌≡◌, ◌≢◌, ◌⊎◌, inl, inr, min, max, Bool, true, false, cond, nat_eq, List, [], ◌∷◌, ◌++◌, length, take, drop, map, Option, Some, None, option_map, refl, sym, ap, ◌∙◌, subst, arith, length-append}
+use Rattle.std.proofs.Common.{ℕ, zero, suc, ◌+◌, ◌-◌, ◌<◌, ◌≤◌, ◌≡◌, inl, inr, min, Bool, true, false, cond, List, [], ◌∷◌, ◌++◌, length, drop, map, Option, Some, None, refl, sym, ap, ◌∙◌, subst, arith, length-append}
 use Rattle.std.specs.List.{slice_get}
-use Rattle.std.proofs.lemmas.Option.{same_Some, none-some, slice_get-map}
+use Rattle.std.proofs.lemmas.Option.{same_Some, none-some}
 use Rattle.std.proofs.lemmas.Bool.Decides.{eqb_tells}
-use Rattle.cal_alloc.specs.Growth.{Buckets}
 use Rattle.cal_transport.specs.declared.command.Command.{Command}
 use Rattle.cal_transport.specs.declared.command.Command.TheVariants as command
 use Rattle.cal_transport.specs.declared.reply.Reply.{Reply}
@@ -11,10 +10,10 @@ use Rattle.cal_transport.specs.declared.reply.Reply.TheVariants.{Loaned, Written
 use Rattle.cal_transport.specs.declared.reply.Refusal.{Refusal}
 use Rattle.cal_transport.specs.declared.settings.Settings.{Settings}
 use Rattle.cal_transport.specs.declared.entry.Entry.{Entry}
-use Rattle.cal_transport.specs.Settings.{clamped, first_buckets}
-use Rattle.cal_transport.specs.Ledger.{Ledger, Chunk, Channel, first_ledger, buckets_at, current, channel_at, chunk_named}
+use Rattle.cal_transport.specs.Settings.{clamped}
+use Rattle.cal_transport.specs.Ledger.{Ledger, Chunk, first_ledger, chunk_named}
 use Rattle.cal_transport.specs.Cause.{cause, serves, next_segment}
-use Rattle.cal_transport.specs.Step.{Owes, Answers, AnswersBy, after, after_by, changed, changed_chunk, after_loan, loaned_at, grown, new_chunk, with_chunk, shown_bytes}
+use Rattle.cal_transport.specs.Step.{Answers, AnswersBy, after, after_by, changed, changed_chunk, after_loan, grown, shown_bytes}
 use Rattle.std.specs.Bool.{MatchBool}
 use Rattle.cal_transport.specs.Replies.{ReplyList}
 use Rattle.cal_transport.specs.Built.{is_built}
@@ -23,7 +22,7 @@ use Rattle.std.proofs.lemmas.List.{length-take}
 use Rattle.cal_transport.specs.Serve.{RanOut}
 use Rattle.cal_transport.specs.Rules.{DoesAnywhere}
 use Rattle.cal_transport.specs.Entry.{AreBelow}
-use Rattle.cal_transport.specs.Parts.{Parts, Shown, Show, StandsFor, Does, ledger_of, entry_of}
+use Rattle.cal_transport.specs.Parts.{Parts, StandsFor, Does, entry_of}
 use Rattle.cal_transport.proofs.Lists.{old_or_new}
 
 -- ---- settings stay
@@ -83,14 +82,15 @@ below_more l n below i chunk e = let b = below i chunk e in omega arith
 
 -- a change that keeps names keeps them below
 change_below : (change : Chunk → Chunk) (name n : ℕ) (chunks : List Chunk) → ((x : Chunk) → (change x).name ≡ x.name) →
-  ((i : ℕ) (chunk : Chunk) → slice_get chunks i ≡ Some chunk → chunk.name < n) →
-  (i : ℕ) (chunk : Chunk) → slice_get (changed_chunk change name chunks) i ≡ Some chunk → chunk.name < n
+    ((i : ℕ) (chunk : Chunk) → slice_get chunks i ≡ Some chunk → chunk.name < n) →
+    (i : ℕ) (chunk : Chunk) → slice_get (changed_chunk change name chunks) i ≡ Some chunk → chunk.name < n
 change_below change name n [] keeps below i chunk e = absurd (none-some chunk e)
 change_below change name n (x ∷ chunks) keeps below zero chunk e =
     let b = below 0 x refl in
     let same : chunk.name ≡ x.name = elim (eqb_tells x.name name) [
-        inl here ↦ ap (λ y. y.name) (sym (same_Some _ chunk (sym (ap (λ k. Some (cond k (change x) x)) here.0) ∙ e))) ∙ keeps x
-      | inr else ↦ ap (λ y. y.name) (sym (same_Some _ chunk (sym (ap (λ k. Some (cond k (change x) x)) else.0) ∙ e))) ] in
+      | inl here ↦ ap (λ y. y.name) (sym (same_Some _ chunk (sym (ap (λ k. Some (cond k (change x) x)) here.0) ∙ e))) ∙ keeps x
+      | inr else ↦ ap (λ y. y.name) (sym (same_Some _ chunk (sym (ap (λ k. Some (cond k (change x) x)) else.0) ∙ e)))
+    ] in
     omega arith
 change_below change name n (x ∷ chunks) keeps below (suc i) chunk e =
     change_below change name n chunks keeps (λ j y f. below (suc j) y f) i chunk e
@@ -105,8 +105,9 @@ grown_chunks l size alignment = go (serves l size alignment)
 loan_below : (l : Ledger) (name : ℕ) (reply : Reply) → NamesBelow l name → NamesBelow (after_loan l name reply) (name + 1)
 unfolding NamesBelow
 loan_below l name (Loaned slot) below i chunk e = elim (old_or_new l.chunks _ i chunk e) [
-    inl old ↦ (let b = below i chunk old in omega arith)
-  | inr new ↦ (let n = ap (λ x. x.name) new.1 in omega arith) ]
+  | inl old ↦ (let b = below i chunk old in omega arith)
+  | inr new ↦ (let n = ap (λ x. x.name) new.1 in omega arith)
+]
 loan_below l name Written below i chunk e = let b = below i chunk e in omega arith
 loan_below l name (Sent back) below i chunk e = let b = below i chunk e in omega arith
 loan_below l name (Received taken) below i chunk e = let b = below i chunk e in omega arith
@@ -139,7 +140,7 @@ after_below l place asked reply below = go (cause l asked)
     go (Some refusal) = below_more l place below
 
 pub steps_below : (l : Ledger) (place : ℕ) (commands : List Command) (replies : List Reply) → NamesBelow l place →
-  NamesBelow (after_steps l place commands replies) (place + length replies)
+    NamesBelow (after_steps l place commands replies) (place + length replies)
 unfolding NamesBelow
 steps_below l place commands [] below i chunk e = let b = below i chunk e in omega arith
 steps_below l place [] (reply ∷ replies) below i chunk e = let b = below i chunk e in omega arith
@@ -157,7 +158,7 @@ entries_below p l n s below i entry e =
     go s.shown.chunks i entry (sym (ap (λ es. slice_get es i) s.show.entries) ∙ e) (λ j chunk f. below j chunk (ap (λ m. slice_get m.chunks j) s.made ∙ f))
   where
     go : (chunks : List Chunk) (i : ℕ) (entry : Entry) → slice_get (map (entry_of s.shown.channel) chunks) i ≡ Some entry →
-      ((j : ℕ) (chunk : Chunk) → slice_get chunks j ≡ Some chunk → chunk.name < n) → entry.name < n
+        ((j : ℕ) (chunk : Chunk) → slice_get chunks j ≡ Some chunk → chunk.name < n) → entry.name < n
     go [] i entry e below = absurd (none-some entry e)
     go (x ∷ chunks) zero entry e below = (let b = below 0 x refl in let same = ap (λ y. y.name) (same_Some _ entry e) in omega arith)
     go (x ∷ chunks) (suc i) entry e below = go chunks i entry e (λ j chunk f. below (suc j) chunk f)
@@ -165,21 +166,23 @@ entries_below p l n s below i entry e =
 -- ---- steps, one more at a time
 
 pub steps_more : (l : Ledger) (place : ℕ) (commands : List Command) (replies : List Reply) (asked : Command) (reply : Reply) →
-  AreSteps l place commands replies → slice_get commands (length replies) ≡ Some asked →
-  Answers (after_steps l place commands replies) (place + length replies) asked reply → AreSteps l place commands (replies ++ reply ∷ [])
+    AreSteps l place commands replies → slice_get commands (length replies) ≡ Some asked →
+    Answers (after_steps l place commands replies) (place + length replies) asked reply → AreSteps l place commands (replies ++ reply ∷ [])
 steps_more l place [] [] asked reply steps next answers = absurd (none-some asked next)
 steps_more l place (first ∷ commands) [] asked reply steps next answers =
     let same = same_Some first asked next in
     (subst (λ a. Answers l place a reply) (sym same) (subst (λ n. Answers l n asked reply) (let e : place + 0 ≡ place = omega arith in e) answers), tt)
 steps_more l place [] (other ∷ replies) asked reply steps next answers = absurd steps
-steps_more l place (first ∷ commands) (other ∷ replies) asked reply steps next answers =
-    (steps.0, steps_more (after l place first other) (place + 1) commands replies asked reply steps.1 next
+steps_more l place (first ∷ commands) (other ∷ replies) asked reply steps next answers = (
+  steps.0,
+  steps_more (after l place first other) (place + 1) commands replies asked reply steps.1 next
       (subst (λ n. Answers (after_steps (after l place first other) (place + 1) commands replies) n asked reply)
-        (let e : place + suc (length replies) ≡ place + 1 + length replies = omega arith in e) answers))
+      (let e : place + suc (length replies) ≡ place + 1 + length replies = omega arith in e) answers),
+)
 
 pub after_steps-more : (l : Ledger) (place : ℕ) (commands : List Command) (replies : List Reply) (asked : Command) (reply : Reply) →
-  AreSteps l place commands replies → slice_get commands (length replies) ≡ Some asked →
-  after_steps l place commands (replies ++ reply ∷ []) ≡ after (after_steps l place commands replies) (place + length replies) asked reply
+    AreSteps l place commands replies → slice_get commands (length replies) ≡ Some asked →
+    after_steps l place commands (replies ++ reply ∷ []) ≡ after (after_steps l place commands replies) (place + length replies) asked reply
 after_steps-more l place [] [] asked reply steps next = absurd (none-some asked next)
 after_steps-more l place (first ∷ commands) [] asked reply steps next =
     let same = same_Some first asked next in
@@ -191,7 +194,7 @@ after_steps-more l place (first ∷ commands) (other ∷ replies) asked reply st
 
 -- steps for every command, and then the chunks in transit, are a run
 pub steps_transit : (l : Ledger) (place : ℕ) (commands : List Command) (replies : List Reply) → AreSteps l place commands replies →
-  length replies ≡ length commands → AreStepsAndTransit l place commands (replies ++ transit_list (after_steps l place commands replies))
+    length replies ≡ length commands → AreStepsAndTransit l place commands (replies ++ transit_list (after_steps l place commands replies))
 steps_transit l place [] [] steps all = refl
 steps_transit l place (asked ∷ commands) [] steps all = absurd (omega arith)
 steps_transit l place [] (reply ∷ replies) steps all = absurd steps
@@ -200,8 +203,8 @@ steps_transit l place (asked ∷ commands) (reply ∷ replies) steps all =
 
 -- steps stop at the next command, where it meets a condition
 pub stops_at : (P : Ledger → Command → Type 0) (l : Ledger) (place : ℕ) (commands : List Command) (replies : List Reply) (asked : Command) →
-  AreSteps l place commands replies → slice_get commands (length replies) ≡ Some asked → P (after_steps l place commands replies) asked →
-  StopsAt P l place commands replies
+    AreSteps l place commands replies → slice_get commands (length replies) ≡ Some asked → P (after_steps l place commands replies) asked →
+    StopsAt P l place commands replies
 stops_at P l place [] [] asked steps next met = absurd (none-some asked next)
 stops_at P l place (first ∷ commands) [] asked steps next met = subst (P l) (sym (same_Some first asked next)) met
 stops_at P l place [] (reply ∷ replies) asked steps next met = absurd steps
@@ -216,13 +219,16 @@ shown_short (Some chunk) at len = let e = length-take len (drop at chunk.bytes) 
 
 -- where bytes were lent, the command had no cause, and asked for as many
 pub read_ran_out : (p : Parts) (channel name at len : ℕ) (bytes : List ℕ) → DoesAnywhere p (command.Read channel name at len) (Bytes bytes) p → 0 < length bytes →
-  RanOut p (command.Read channel name at len)
+    RanOut p (command.Read channel name at len)
 read_ran_out p channel name at len bytes does some l s = go (cause l (command.Read channel name at len)) refl ((does 0 l s).0)
   where
     go : (o : Option Refusal) → cause l (command.Read channel name at len) ≡ o → AnswersBy o l 0 (command.Read channel name at len) (Bytes bytes) →
-      (0 < len) × (cause l (command.Read channel name at len) ≡ None)
-    go None e owes = (let same : bytes ≡ shown_bytes (chunk_named l name) at len = cc in
-      let long = ap length same in let short = shown_short (chunk_named l name) at len in omega arith, e)
+        (0 < len) × (cause l (command.Read channel name at len) ≡ None)
+    go None e owes = (
+      let same : bytes ≡ shown_bytes (chunk_named l name) at len = cc in
+          let long = ap length same in let short = shown_short (chunk_named l name) at len in omega arith,
+      e,
+    )
     go (Some refusal) e refused = cc
 
 -- ---- the loop
@@ -237,17 +243,17 @@ pub record IsRunning (settings : Settings) (commands : List Command) (p : Parts)
 
 -- the names so far are below the next place
 pub running_below : (settings : Settings) (commands : List Command) (p : Parts) (replies : ReplyList) (index room : ℕ) →
-  IsRunning settings commands p replies index room → AreBelow p.entries (index + 1)
+    IsRunning settings commands p replies index room → AreBelow p.entries (index + 1)
 running_below settings commands p replies index room r =
     let below = steps_below (first_ledger settings) 1 commands replies.items (first_below settings) in
     subst (AreBelow p.entries) (let t = r.turns in let e : 1 + length replies.items ≡ index + 1 = omega arith in e)
-      (entries_below p (after_steps (first_ledger settings) 1 commands replies.items) (1 + length replies.items) r.stands below)
+    (entries_below p (after_steps (first_ledger settings) 1 commands replies.items) (1 + length replies.items) r.stands below)
 
 -- one more answer
 pub runs_on : (settings : Settings) (commands : List Command) (old new : Parts) (before after' : ReplyList) (index room : ℕ) (asked : Command) (reply : Reply) →
-  IsRunning settings commands old before index room → slice_get commands index ≡ Some asked → Does old (index + 1) asked reply new →
-  old.room ≤ new.room + 1 → after'.items ≡ before.items ++ reply ∷ [] → after'.spare ≡ before.spare - 1 → 0 < before.spare →
-  IsRunning settings commands new after' (index + 1) room
+    IsRunning settings commands old before index room → slice_get commands index ≡ Some asked → Does old (index + 1) asked reply new →
+    old.room ≤ new.room + 1 → after'.items ≡ before.items ++ reply ∷ [] → after'.spare ≡ before.spare - 1 → 0 < before.spare →
+    IsRunning settings commands new after' (index + 1) room
 runs_on settings commands old new before after' index room asked reply r next does kept pushed left some =
     let l = after_steps (first_ledger settings) 1 commands before.items in
     let next' : slice_get commands (length before.items) ≡ Some asked = ap (slice_get commands) r.turns ∙ next in
@@ -267,26 +273,26 @@ runs_on settings commands old new before after' index room asked reply r next do
 
 -- how much the walk may list is known from the settings
 pub most_is : (settings : Settings) (commands : List Command) (replies : List Reply) (p : Parts) → StandsFor p (after_steps (first_ledger settings) 1 commands replies) →
-  min p.pool.buckets.count p.settings.samples ≡ min settings.count (clamped settings).samples
+    min p.pool.buckets.count p.settings.samples ≡ min settings.count (clamped settings).samples
 most_is settings commands replies p s =
     let same : p.settings ≡ clamped settings = sym (ap (λ l. l.settings) s.made) ∙ steps_settings (first_ledger settings) 1 commands replies in
     ap (λ b. min b.count p.settings.samples) s.show.ready.first ∙ ap (λ x. min x.count x.samples) same
 
 -- a run that went through
 pub ran : (settings : Settings) (commands : List Command) (p : Parts) (replies : ReplyList) (all : List Reply) (index room : ℕ) →
-  IsRunning settings commands p replies index room → index ≡ length commands →
-  ((l : Ledger) → StandsFor p l → all ≡ replies.items ++ transit_list l) → IsRun settings commands all
+    IsRunning settings commands p replies index room → index ≡ length commands →
+    ((l : Ledger) → StandsFor p l → all ≡ replies.items ++ transit_list l) → IsRun settings commands all
 ran settings commands p replies all index room r whole listed =
     let l = after_steps (first_ledger settings) 1 commands replies.items in
     subst (IsRun settings commands) (sym (listed l r.stands))
-      (steps_transit (first_ledger settings) 1 commands replies.items r.steps (r.turns ∙ whole))
+    (steps_transit (first_ledger settings) 1 commands replies.items r.steps (r.turns ∙ whole))
 
 -- a run that ran out of memory at a command
 pub ran_out : (settings : Settings) (commands : List Command) (p : Parts) (replies : ReplyList) (index room : ℕ) (asked : Command) →
-  IsRunning settings commands p replies index room → slice_get commands index ≡ Some asked → RanOut p asked → StopsForMemory settings commands replies.items
+    IsRunning settings commands p replies index room → slice_get commands index ≡ Some asked → RanOut p asked → StopsForMemory settings commands replies.items
 ran_out settings commands p replies index room asked r next out =
     go replies.items (stops_at TakesMemory (first_ledger settings) 1 commands replies.items asked r.steps (ap (slice_get commands) r.turns ∙ next)
-      (out (after_steps (first_ledger settings) 1 commands replies.items) r.stands))
+    (out (after_steps (first_ledger settings) 1 commands replies.items) r.stands))
   where
     go : (rs : List Reply) → StopsAt TakesMemory (first_ledger settings) 1 commands rs → StopsForMemory settings commands rs
     go [] stops = tt
@@ -294,7 +300,7 @@ ran_out settings commands p replies index room asked r next out =
 
 -- a run that came to a command that isn't served
 pub ran_unbuilt : (settings : Settings) (commands : List Command) (p : Parts) (replies : ReplyList) (index room : ℕ) (asked : Command) → is_built settings ≡ true →
-  IsRunning settings commands p replies index room → slice_get commands index ≡ Some asked → asked ≡ command.Count → StopsUnbuilt settings commands replies.items
+    IsRunning settings commands p replies index room → slice_get commands index ≡ Some asked → asked ≡ command.Count → StopsUnbuilt settings commands replies.items
 ran_unbuilt settings commands p replies index room asked built r next is =
     subst (λ b. MatchBool b (StopsAt IsCount (first_ledger settings) 1 commands replies.items) (replies.items ≡ [])) (sym built)
-      (stops_at IsCount (first_ledger settings) 1 commands replies.items asked r.steps (ap (slice_get commands) r.turns ∙ next) is)
+    (stops_at IsCount (first_ledger settings) 1 commands replies.items asked r.steps (ap (slice_get commands) r.turns ∙ next) is)

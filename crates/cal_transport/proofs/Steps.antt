@@ -1,5 +1,5 @@
 -- How a command's answer is shown to be a step of every ledger that the transport stands for.
-use Rattle.std.proofs.Common.{ℕ, zero, suc, ◌+◌, ◌*◌, ◌^◌, ◌<◌, ◌≤◌, ◌≡◌, ◌≢◌, ◌⊎◌, inl, inr, Bool, true, false, cond, nat_eq, List, [], ◌∷◌, length, map, set, Option, Some, None, option_map, refl, sym, ap, ◌∙◌, subst, arith}
+use Rattle.std.proofs.Common.{ℕ, zero, suc, ◌+◌, ◌*◌, ◌^◌, ◌<◌, ◌≤◌, ◌≡◌, ◌≢◌, inl, inr, cond, nat_eq, List, [], ◌∷◌, length, map, set, Option, Some, None, option_map, refl, sym, ap, ◌∙◌, subst, arith}
 use Rattle.std.specs.List.{slice_get, find}
 use Rattle.std.proofs.lemmas.Option.{same_Some, slice_get-map, none-some}
 use Rattle.std.proofs.Math.Nat.{mul-le-mul_left}
@@ -15,14 +15,13 @@ use Rattle.cal_transport.specs.Cause.{cause}
 use Rattle.cal_transport.specs.Step.{Owes, Answers, AnswersBy, changed, after, after_by, changed_chunk}
 use Rattle.cal_transport.specs.Entry.{IsUnnamed, IsFound}
 use Rattle.cal_transport.specs.Parts.{Parts, Shown, Show, StandsFor, Does, ledger_of, entry_of}
-use Rattle.cal_transport.proofs.Lists.{same_or_apart}
 use Rattle.cal_transport.proofs.Update.{names_apart}
 
 -- ---- answers
 
 -- a refusal changes nothing, where the ledger has its cause whatever the parts show
 pub refused : (p : Parts) (place : ℕ) (asked : Command) (refusal : Refusal) →
-  ((w : Shown) → Show p w → cause (ledger_of p w) asked ≡ Some refusal) → Does p place asked (Refused refusal) p
+    ((w : Shown) → Show p w → cause (ledger_of p w) asked ≡ Some refusal) → Does p place asked (Refused refusal) p
 refused p place asked refusal why l s =
     let e : cause l asked ≡ Some refusal = subst (λ m. cause m asked ≡ Some refusal) (sym s.made) (why s.shown s.show) in
     let P : Option Refusal → Type 0 = λ o. AnswersBy o l place asked (Refused refusal) × StandsFor p (after_by o l place asked (Refused refusal)) in
@@ -37,18 +36,18 @@ pub record IsStep (p p' : Parts) (place : ℕ) (asked : Command) (reply : Reply)
   pub show : Show p' shown
 
 pub done : (p p' : Parts) (place : ℕ) (asked : Command) (reply : Reply) →
-  ((w : Shown) → Show p w → IsStep p p' place asked reply w) → Does p place asked reply p'
+    ((w : Shown) → Show p w → IsStep p p' place asked reply w) → Does p place asked reply p'
 done p p' place asked reply how l s =
     let step = how s.shown s.show in
     let P : Option Refusal → Type 0 = λ o. AnswersBy o (ledger_of p s.shown) place asked reply
-      × StandsFor p' (after_by o (ledger_of p s.shown) place asked reply) in
+    × StandsFor p' (after_by o (ledger_of p s.shown) place asked reply) in
     let Q : Ledger → Type 0 = λ m. Answers m place asked reply × StandsFor p' (after m place asked reply) in
     subst Q (sym s.made) (subst P (sym step.none)
-      (step.owes, record { shown = step.shown; made = step.made; show = step.show }))
+    (step.owes, record { shown = step.shown; made = step.made; show = step.show }))
 
 -- after an answer the parts show some ledger again
 pub sound_after : (p p' : Parts) (place : ℕ) (asked : Command) (reply : Reply) (w : Shown) → Show p w → Does p place asked reply p' →
-  (v : Shown) × Show p' v
+    (v : Shown) × Show p' v
 sound_after p p' place asked reply w show does =
     let s = (does (ledger_of p w) (record { shown = w; made = refl; show = show })).1 in (s.shown, s.show)
 
@@ -56,27 +55,30 @@ sound_after p p' place asked reply w show does =
 
 -- what a list's first element of a name is: it stands somewhere, and has the name
 pub find_stands : (chunks : List Chunk) (name : ℕ) (chunk : Chunk) → find (λ x. nat_eq x.name name) chunks ≡ Some chunk →
-  (i : ℕ) × (slice_get chunks i ≡ Some chunk) × (chunk.name ≡ name)
+    (i : ℕ) × (slice_get chunks i ≡ Some chunk) × (chunk.name ≡ name)
 find_stands [] name chunk e = absurd (none-some chunk e)
 find_stands (x ∷ chunks) name chunk e = elim (eqb_tells x.name name) [
-    inl same ↦ (let here = same_Some x chunk (sym (ap (λ b. cond b (Some x) (find (λ y. nat_eq y.name name) chunks)) same.0) ∙ e) in
+  | inl same ↦ (let here = same_Some x chunk (sym (ap (λ b. cond b (Some x) (find (λ y. nat_eq y.name name) chunks)) same.0) ∙ e) in
       (0, ap Some here, ap (λ y. y.name) (sym here) ∙ same.1))
   | inr apart ↦ (let rest = find_stands chunks name chunk (sym (ap (λ b. cond b (Some x) (find (λ y. nat_eq y.name name) chunks)) apart.0) ∙ e) in
-      (suc rest.0, rest.1, rest.2)) ]
+      (suc rest.0, rest.1, rest.2))
+]
 
 -- the first of a name is the one that stands there, where none before it has the name
 pub find_first : (chunks : List Chunk) (i : ℕ) (chunk : Chunk) → slice_get chunks i ≡ Some chunk →
-  ((j : ℕ) (x : Chunk) → slice_get chunks j ≡ Some x → j ≢ i → x.name ≢ chunk.name) → find (λ x. nat_eq x.name chunk.name) chunks ≡ Some chunk
+    ((j : ℕ) (x : Chunk) → slice_get chunks j ≡ Some x → j ≢ i → x.name ≢ chunk.name) → find (λ x. nat_eq x.name chunk.name) chunks ≡ Some chunk
 find_first [] i chunk e apart = absurd (none-some chunk e)
 find_first (x ∷ chunks) zero chunk e apart =
     let here = same_Some x chunk e in
     elim (eqb_tells x.name chunk.name) [
-        inl same ↦ ap (λ b. cond b (Some x) (find (λ y. nat_eq y.name chunk.name) chunks)) same.0 ∙ e
-      | inr other ↦ absurd (other.1 (ap (λ y. y.name) here)) ]
+      | inl same ↦ ap (λ b. cond b (Some x) (find (λ y. nat_eq y.name chunk.name) chunks)) same.0 ∙ e
+      | inr other ↦ absurd (other.1 (ap (λ y. y.name) here))
+    ]
 find_first (x ∷ chunks) (suc i) chunk e apart = elim (eqb_tells x.name chunk.name) [
-    inl same ↦ absurd (apart 0 x refl (λ q. absurd (omega arith)) same.1)
+  | inl same ↦ absurd (apart 0 x refl (λ q. absurd (omega arith)) same.1)
   | inr other ↦ ap (λ b. cond b (Some x) (find (λ y. nat_eq y.name chunk.name) chunks)) other.0
-      ∙ find_first chunks i chunk e (λ j y stands elsewhere. apart (suc j) y stands (λ q. elsewhere (omega arith))) ]
+      ∙ find_first chunks i chunk e (λ j y stands elsewhere. apart (suc j) y stands (λ q. elsewhere (omega arith)))
+]
 
 -- no chunk has a name that no entry has
 pub unnamed : (p : Parts) (w : Shown) (name : ℕ) → Show p w → IsUnnamed p.entries name → find (λ x. nat_eq x.name name) w.chunks ≡ None
@@ -87,7 +89,7 @@ unnamed p w name h none = go (find (λ x. nat_eq x.name name) w.chunks) refl
     go (Some chunk) e =
         let s = find_stands w.chunks name chunk e in
         let at : slice_get p.entries s.0 ≡ Some (entry_of w.channel chunk) = ap (λ entries. slice_get entries s.0) h.entries
-          ∙ slice_get-map (entry_of w.channel) w.chunks s.0 ∙ ap (option_map (entry_of w.channel)) s.1 in
+        ∙ slice_get-map (entry_of w.channel) w.chunks s.0 ∙ ap (option_map (entry_of w.channel)) s.1 in
         absurd (none s.0 (entry_of w.channel chunk) at s.2)
 
 -- the chunk whose entry this is
@@ -100,13 +102,13 @@ pub record IsChunk (w : Shown) (name : ℕ) (index : ℕ) (entry : Entry) : Type
 
 -- a list that maps to an element there has one there
 stands_under : (c : Channel) (chunks : List Chunk) (i : ℕ) (entry : Entry) → slice_get (map (entry_of c) chunks) i ≡ Some entry →
-  (chunk : Chunk) × (slice_get chunks i ≡ Some chunk) × (entry ≡ entry_of c chunk)
+    (chunk : Chunk) × (slice_get chunks i ≡ Some chunk) × (entry ≡ entry_of c chunk)
 stands_under c [] i entry e = absurd (none-some entry e)
 stands_under c (x ∷ chunks) zero entry e = (x, refl, sym (same_Some (entry_of c x) entry e))
 stands_under c (x ∷ chunks) (suc i) entry e = stands_under c chunks i entry e
 
 pub chunk_at : (p : Parts) (w : Shown) (index : ℕ) (entry : Entry) → Show p w → slice_get p.entries index ≡ Some entry →
-  IsChunk w entry.name index entry
+    IsChunk w entry.name index entry
 chunk_at p w index entry h stands =
     let s = stands_under w.channel w.chunks index entry (sym (ap (λ entries. slice_get entries index) h.entries) ∙ stands) in
     let same : s.0.name ≡ entry.name = ap (λ e. e.name) (sym s.2) in
@@ -120,33 +122,36 @@ chunk_at p w index entry h stands =
     }
 
 pub found_chunk : (p : Parts) (w : Shown) (name : ℕ) (found : Found) → Show p w → IsFound p.entries name found →
-  IsChunk w name found.index found.entry
+    IsChunk w name found.index found.entry
 found_chunk p w name found h is = subst (λ n. IsChunk w n found.index found.entry) is.1 (chunk_at p w found.index found.entry h is.0)
 
 -- to change the chunk of a name is to write at its place
 pub changed_chunk-at : (chunks : List Chunk) (i : ℕ) (chunk : Chunk) (change : Chunk → Chunk) → slice_get chunks i ≡ Some chunk →
-  ((j : ℕ) (x : Chunk) → slice_get chunks j ≡ Some x → j ≢ i → x.name ≢ chunk.name) →
-  changed_chunk change chunk.name chunks ≡ set chunks i (change chunk)
+    ((j : ℕ) (x : Chunk) → slice_get chunks j ≡ Some x → j ≢ i → x.name ≢ chunk.name) →
+    changed_chunk change chunk.name chunks ≡ set chunks i (change chunk)
 changed_chunk-at [] i chunk change e apart = absurd (none-some chunk e)
 changed_chunk-at (x ∷ chunks) zero chunk change e apart =
     let here = same_Some x chunk e in
     let first : cond (nat_eq x.name chunk.name) (change x) x ≡ change chunk = elim (eqb_tells x.name chunk.name) [
-        inl same ↦ ap (λ b. cond b (change x) x) same.0 ∙ ap change here
-      | inr other ↦ absurd (other.1 (ap (λ y. y.name) here)) ] in
+      | inl same ↦ ap (λ b. cond b (change x) x) same.0 ∙ ap change here
+      | inr other ↦ absurd (other.1 (ap (λ y. y.name) here))
+    ] in
     let rest = none_changed chunks chunk.name change (λ j y stands. apart (suc j) y stands (λ q. absurd (omega arith))) in cc
   where
     none_changed : (chunks : List Chunk) (name : ℕ) (change : Chunk → Chunk) →
-      ((j : ℕ) (x : Chunk) → slice_get chunks j ≡ Some x → x.name ≢ name) → changed_chunk change name chunks ≡ chunks
+        ((j : ℕ) (x : Chunk) → slice_get chunks j ≡ Some x → x.name ≢ name) → changed_chunk change name chunks ≡ chunks
     none_changed [] name change apart = refl
     none_changed (x ∷ chunks) name change apart =
         let first : cond (nat_eq x.name name) (change x) x ≡ x = elim (eqb_tells x.name name) [
-            inl same ↦ absurd (apart 0 x refl same.1)
-          | inr other ↦ ap (λ b. cond b (change x) x) other.0 ] in
+          | inl same ↦ absurd (apart 0 x refl same.1)
+          | inr other ↦ ap (λ b. cond b (change x) x) other.0
+        ] in
         let rest = none_changed chunks name change (λ j y stands. apart (suc j) y stands) in cc
 changed_chunk-at (x ∷ chunks) (suc i) chunk change e apart =
     let first : cond (nat_eq x.name chunk.name) (change x) x ≡ x = elim (eqb_tells x.name chunk.name) [
-        inl same ↦ absurd (apart 0 x refl (λ q. absurd (omega arith)) same.1)
-      | inr other ↦ ap (λ b. cond b (change x) x) other.0 ] in
+      | inl same ↦ absurd (apart 0 x refl (λ q. absurd (omega arith)) same.1)
+      | inr other ↦ ap (λ b. cond b (change x) x) other.0
+    ] in
     let rest = changed_chunk-at chunks i chunk change e (λ j y stands elsewhere. apart (suc j) y stands (λ q. elsewhere (omega arith))) in cc
 
 -- where a chunk's bucket lies: within the memory, whose places are small numbers

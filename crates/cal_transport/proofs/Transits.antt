@@ -1,5 +1,5 @@
 -- What a walk over the used buckets lists: the chunks in transit.
-use Rattle.std.proofs.Common.{ℕ, zero, suc, ◌+◌, ◌-◌, ◌*◌, ◌<◌, ◌≤◌, ◌≡◌, ◌≢◌, ◌⊎◌, inl, inr, min, Bool, true, false, cond, not, ◌||◌, ◌&&◌, nat_eq, nat_lt, nat_le, List, [], ◌∷◌, ◌++◌, length, map, Option, Some, None, refl, sym, ap, ◌∙◌, subst, arith}
+use Rattle.std.proofs.Common.{ℕ, zero, suc, ◌+◌, ◌*◌, ◌<◌, ◌≤◌, ◌≡◌, ◌≢◌, ◌⊎◌, inl, inr, min, Bool, true, false, cond, ◌&&◌, nat_eq, List, [], ◌∷◌, ◌++◌, map, Some, refl, sym, ap, ◌∙◌, arith}
 use Rattle.std.specs.List.{slice_get, flat_map, filter}
 use Rattle.std.proofs.lemmas.Bool.{cases_lt, true≢false}
 use Rattle.std.proofs.lemmas.Bool.Decides.{nat_tests}
@@ -7,19 +7,17 @@ use Rattle.std.proofs.lemmas.Option.{same_Some, none-some}
 use Rattle.std.proofs.lemmas.List.{append-nil, map-append, get_or_past}
 use Rattle.std.proofs.lemmas.Grind.{flat_map-append}
 use Rattle.cal_alloc.specs.Pool.{is_used}
-use Rattle.cal_queue.specs.UsedChunks.{UsedChunks, contains, capacity_of}
+use Rattle.cal_queue.specs.UsedChunks.{UsedChunks, contains}
 use Rattle.cal_transport.specs.declared.entry.Entry.{Entry}
 use Rattle.cal_transport.specs.declared.reply.Reply.{Reply}
 use Rattle.cal_transport.specs.declared.reply.Reply.TheVariants.{Transit}
-use Rattle.cal_transport.specs.declared.reply.Slot.{Slot}
-use Rattle.cal_transport.specs.Ledger.{Ledger, Chunk, Channel, numbers_below, is_in_transit, buckets_at}
+use Rattle.cal_transport.specs.Ledger.{Ledger, Chunk, numbers_below, is_in_transit, buckets_at}
 use Rattle.cal_transport.specs.Step.{slot_of}
-use Rattle.cal_transport.specs.Run.{transit_at, transit_on, transit_list}
+use Rattle.cal_transport.specs.Run.{transit_at, transit_list}
 use Rattle.cal_transport.specs.Transit.{transit_reply, owner_of, reply_of, LeadUsed}
 use Rattle.cal_transport.specs.Parts.{Parts, Shown, Show, StandsFor, ledger_of, entry_of, lives, weight}
 use Rattle.cal_transport.proofs.Names.{is_in_transit-weight}
 use Rattle.cal_transport.proofs.Update.{entry_at, transit_lives, bucket_within, buckets_apart}
-use Rattle.cal_transport.proofs.Lists.{same_or_apart}
 
 -- the chunks of the buckets below this one are listed, and there is room for those of the others
 pub record Listed (used : UsedChunks) (entries : List Entry) (owners : List ℕ) (size bucket limit : ℕ) (before now : List Reply) (spare : ℕ) : Type 0 where
@@ -33,7 +31,7 @@ filter_none P [] none = refl
 filter_none P (y ∷ xs) none = ap (λ b. cond b (y ∷ filter P xs) (filter P xs)) (none 0 y refl) ∙ filter_none P xs (λ i x e. none (suc i) x e)
 
 filter_one : (P : Chunk → Bool) (xs : List Chunk) (i : ℕ) (x : Chunk) → slice_get xs i ≡ Some x → P x ≡ true →
-  ((j : ℕ) (y : Chunk) → slice_get xs j ≡ Some y → j ≢ i → P y ≡ false) → filter P xs ≡ x ∷ []
+    ((j : ℕ) (y : Chunk) → slice_get xs j ≡ Some y → j ≢ i → P y ≡ false) → filter P xs ≡ x ∷ []
 filter_one P [] i x e here else = absurd (none-some x e)
 filter_one P (y ∷ xs) zero x e here else =
     let same = same_Some y x e in
@@ -60,10 +58,11 @@ flat_map_below f g (suc n) agree =
 flat_map_cut : (f : ℕ → List Reply) (n m : ℕ) → ((k : ℕ) → m ≤ k → f k ≡ []) → flat_map f (numbers_below n) ≡ flat_map f (numbers_below (min n m))
 flat_map_cut f zero m none = ap (λ k. flat_map f (numbers_below k)) (let e : 0 ≡ min 0 m = omega arith in e)
 flat_map_cut f (suc n) m none = elim (cases_lt n m) [
-    inl below ↦ ap (λ k. flat_map f (numbers_below k)) (let e : suc n ≡ min (suc n) m = omega arith in e)
+  | inl below ↦ ap (λ k. flat_map f (numbers_below k)) (let e : suc n ≡ min (suc n) m = omega arith in e)
   | inr past ↦ flat_map-append f (numbers_below n) (n ∷ [])
       ∙ ap (λ last. flat_map f (numbers_below n) ++ (last ++ [])) (none n past) ∙ append-nil (flat_map f (numbers_below n))
-      ∙ flat_map_cut f n m none ∙ ap (λ k. flat_map f (numbers_below k)) (let e : min n m ≡ min (suc n) m = omega arith in e) ]
+      ∙ flat_map_cut f n m none ∙ ap (λ k. flat_map f (numbers_below k)) (let e : min n m ≡ min (suc n) m = omega arith in e)
+]
 
 -- ---- used buckets
 
@@ -115,7 +114,7 @@ is_at p w bucket chunk = nat_eq chunk.segment 0 && nat_eq chunk.bucket bucket &&
 
 -- a chunk in transit marks its bucket as used
 marks_used : (p : Parts) (w : Shown) (i : ℕ) (chunk : Chunk) → Show p w → slice_get w.chunks i ≡ Some chunk → is_in_transit w.channel chunk.name ≡ true →
-  (contains p.used chunk.bucket ≡ true) × (lives w.channel chunk ≡ true)
+    (contains p.used chunk.bucket ≡ true) × (lives w.channel chunk ≡ true)
 marks_used p w i chunk h stands moves =
     let heavy : 0 < weight w.channel chunk.name = (let e = sym (is_in_transit-weight w.channel chunk.name) ∙ moves in grind (arith, nat_tests)) in
     let alive = transit_lives w.channel chunk heavy in
@@ -132,26 +131,26 @@ same_number : (a b : ℕ) → nat_eq a b ≡ true → a ≡ b
 same_number a b e = grind (arith, nat_tests)
 
 none_told : (p : Parts) (w : Shown) (bucket : ℕ) → Show p w → contains p.used bucket ≡ false →
-  (i : ℕ) (x : Chunk) → slice_get w.chunks i ≡ Some x → is_at p w bucket x ≡ false
+    (i : ℕ) (x : Chunk) → slice_get w.chunks i ≡ Some x → is_at p w bucket x ≡ false
 none_told p w bucket h unused i x e =
     and3_false (nat_eq x.segment 0) (nat_eq x.bucket bucket) (is_in_transit w.channel x.name) (λ a b c.
-      true≢false (sym (marks_used p w i x h e c).0 ∙ ap (contains p.used) (same_number x.bucket bucket b) ∙ unused))
+    true≢false (sym (marks_used p w i x h e c).0 ∙ ap (contains p.used) (same_number x.bucket bucket b) ∙ unused))
 
 -- only the bucket's own chunk is there
 others_elsewhere : (p : Parts) (w : Shown) (bucket : ℕ) → Show p w → (m : IsMoving p w bucket) →
-  (j : ℕ) (y : Chunk) → slice_get w.chunks j ≡ Some y → j ≢ m.index → is_at p w bucket y ≡ false
+    (j : ℕ) (y : Chunk) → slice_get w.chunks j ≡ Some y → j ≢ m.index → is_at p w bucket y ≡ false
 others_elsewhere p w bucket h m j y e apart =
     and3_false (nat_eq y.segment 0) (nat_eq y.bucket bucket) (is_in_transit w.channel y.name) (λ a b c.
-      (let mine = (marks_used p w m.index m.chunk h m.stands m.moves).1 in
-       let other = (marks_used p w j y h e c).1 in
-       buckets_apart p w j m.index y m.chunk h e m.stands other mine apart (same_number y.bucket bucket b ∙ sym m.there)))
+    (let mine = (marks_used p w m.index m.chunk h m.stands m.moves).1 in
+    let other = (marks_used p w j y h e c).1 in
+    buckets_apart p w j m.index y m.chunk h e m.stands other mine apart (same_number y.bucket bucket b ∙ sym m.there)))
 
 bucket_told : (p : Parts) (w : Shown) (bucket : ℕ) → Show p w →
-  map (λ chunk. Transit 0 (slot_of (ledger_of p w) chunk)) (transit_at (ledger_of p w) 0 0 bucket) ≡ transit_reply p.used p.entries p.owners p.pool.buckets.size bucket
+    map (λ chunk. Transit 0 (slot_of (ledger_of p w) chunk)) (transit_at (ledger_of p w) 0 0 bucket) ≡ transit_reply p.used p.entries p.owners p.pool.buckets.size bucket
 bucket_told p w bucket h = go (contains p.used bucket) refl
   where
     go : (b : Bool) → contains p.used bucket ≡ b →
-      map (λ chunk. Transit 0 (slot_of (ledger_of p w) chunk)) (transit_at (ledger_of p w) 0 0 bucket) ≡ transit_reply p.used p.entries p.owners p.pool.buckets.size bucket
+        map (λ chunk. Transit 0 (slot_of (ledger_of p w) chunk)) (transit_at (ledger_of p w) 0 0 bucket) ≡ transit_reply p.used p.entries p.owners p.pool.buckets.size bucket
     go false unused =
         ap (map (λ chunk. Transit 0 (slot_of (ledger_of p w) chunk))) (filter_none (is_at p w bucket) w.chunks (none_told p w bucket h unused))
         ∙ sym (ap (λ b. cond b (reply_of (owner_of p.entries (slice_get p.owners bucket)) (bucket * p.pool.buckets.size)) []) unused)
@@ -162,7 +161,7 @@ bucket_told p w bucket h = go (contains p.used bucket) refl
         let here : is_at p w bucket m.chunk ≡ true = grind (arith, nat_tests) in
         let T : ℕ → ℕ → List Reply = λ seg b. Transit 0 (record { chunk = m.chunk.name; segment = seg; place = b * (buckets_at (ledger_of p w) seg).size }) ∷ [] in
         ap (map (λ chunk. Transit 0 (slot_of (ledger_of p w) chunk)))
-          (filter_one (is_at p w bucket) w.chunks m.index m.chunk m.stands here (others_elsewhere p w bucket h m))
+        (filter_one (is_at p w bucket) w.chunks m.index m.chunk m.stands here (others_elsewhere p w bucket h m))
         ∙ ap (λ seg. T seg m.chunk.bucket) segment
         ∙ ap (T 0) there
         ∙ sym (ap (λ o. reply_of o (bucket * p.pool.buckets.size)) (entry_at p w m.index m.chunk h m.stands))
@@ -171,12 +170,12 @@ bucket_told p w bucket h = go (contains p.used bucket) refl
 
 -- the walk lists the chunks in transit
 pub walk_is : (p : Parts) (w : Shown) → Show p w →
-  flat_map (transit_reply p.used p.entries p.owners p.pool.buckets.size) (numbers_below (min p.pool.buckets.count p.settings.samples)) ≡ transit_list (ledger_of p w)
+    flat_map (transit_reply p.used p.entries p.owners p.pool.buckets.size) (numbers_below (min p.pool.buckets.count p.settings.samples)) ≡ transit_list (ledger_of p w)
 walk_is p w h =
     let R : ℕ → List Reply = transit_reply p.used p.entries p.owners p.pool.buckets.size in
     let T : Chunk → Reply = λ chunk. Transit 0 (slot_of (ledger_of p w) chunk) in
     sym (flat_map_cut R p.pool.buckets.count p.settings.samples (λ k past.
-      ap (λ b. cond b (reply_of (owner_of p.entries (slice_get p.owners k)) (k * p.pool.buckets.size)) []) (past_unused p w k h past)))
+    ap (λ b. cond b (reply_of (owner_of p.entries (slice_get p.owners k)) (k * p.pool.buckets.size)) []) (past_unused p w k h past)))
     ∙ sym (flat_map_below (λ k. map T (transit_at (ledger_of p w) 0 0 k)) R p.pool.buckets.count (λ k below. bucket_told p w k h))
     ∙ sym (map-flat_map T (transit_at (ledger_of p w) 0 0) (numbers_below p.pool.buckets.count))
     ∙ sym (ap (map T) (append-nil (flat_map (transit_at (ledger_of p w) 0 0) (numbers_below p.pool.buckets.count))))
@@ -184,5 +183,5 @@ walk_is p w h =
 
 -- whichever ledger the parts stand for, the walk lists what it has in transit
 pub transit_is : (p : Parts) (before after : List Reply) → after ≡ before ++ flat_map (transit_reply p.used p.entries p.owners p.pool.buckets.size) (numbers_below (min p.pool.buckets.count p.settings.samples)) →
-  (l : Ledger) → StandsFor p l → after ≡ before ++ transit_list l
+    (l : Ledger) → StandsFor p l → after ≡ before ++ transit_list l
 transit_is p before after e l s = e ∙ ap (λ rs. before ++ rs) (walk_is p s.shown s.show ∙ ap transit_list (sym s.made))

@@ -1,13 +1,10 @@
 -- What the parts show still holds where one live chunk, its bucket and its channel change.
-use Rattle.std.proofs.Common.{ℕ, zero, suc, ◌+◌, ◌-◌, ◌*◌, ◌<◌, ◌≤◌, ◌≡◌, ◌≢◌, ◌⊎◌, inl, inr, Bool, true, false, cond, ◌||◌, nat_lt, nat_eq, List, [], ◌∷◌, ◌++◌, length, take, drop, map, set, Option, Some, None, option_map, refl, sym, ap, ◌∙◌, subst, arith}
+use Rattle.std.proofs.Common.{ℕ, zero, suc, ◌*◌, ◌<◌, ◌≡◌, ◌≢◌, inl, inr, true, false, ◌||◌, nat_lt, List, [], ◌∷◌, length, map, set, Option, Some, option_map, refl, sym, ap, ◌∙◌, subst, arith}
 use Rattle.std.specs.List.{slice_get}
-use Rattle.std.proofs.lemmas.Option.{same_Some, slice_get-map, slice_get_within}
+use Rattle.std.proofs.lemmas.Option.{same_Some, slice_get-map}
 use Rattle.std.proofs.lemmas.Bool.{cases_lt}
-use Rattle.std.proofs.lemmas.Bool.Decides.{eqb_tells, nat_tests}
-use Rattle.std.proofs.lemmas.Grind.{common_steps}
-use Rattle.cal_alloc.specs.Growth.{Buckets}
-use Rattle.cal_alloc.specs.Pool.{Pool, is_used}
-use Rattle.cal_alloc.specs.PointerOffset.{pointer_offset}
+use Rattle.std.proofs.lemmas.Bool.Decides.{nat_tests}
+use Rattle.cal_alloc.specs.Pool.{is_used}
 use Rattle.cal_queue.specs.UsedChunks.{contains}
 use Rattle.cal_transport.specs.declared.entry.Entry.{Entry}
 use Rattle.cal_transport.specs.Ledger.{Chunk, Channel, queued, completed, is_borrowed, borrow_count, is_in_transit}
@@ -19,12 +16,12 @@ use Rattle.cal_transport.proofs.Names.{is_in_transit-weight}
 -- ---- what the parts show of chunks
 
 pub entry_at : (p : Parts) (w : Shown) (i : ℕ) (chunk : Chunk) → Show p w → slice_get w.chunks i ≡ Some chunk →
-  slice_get p.entries i ≡ Some (entry_of w.channel chunk)
+    slice_get p.entries i ≡ Some (entry_of w.channel chunk)
 entry_at p w i chunk h e = ap (λ entries. slice_get entries i) h.entries ∙ slice_get-map (entry_of w.channel) w.chunks i ∙ ap (option_map (entry_of w.channel)) e
 
 -- chunks at two places have two names
 pub names_apart : (p : Parts) (w : Shown) (i j : ℕ) (a b : Chunk) → Show p w →
-  slice_get w.chunks i ≡ Some a → slice_get w.chunks j ≡ Some b → i ≢ j → a.name ≢ b.name
+    slice_get w.chunks i ≡ Some a → slice_get w.chunks j ≡ Some b → i ≢ j → a.name ≢ b.name
 names_apart p w i j a b h first second apart same =
     let x = entry_at p w i a h first in let y = entry_at p w j b h second in
     let below : i < j → a.name < b.name = h.rising i j (entry_of w.channel a) (entry_of w.channel b) x y in
@@ -33,8 +30,8 @@ names_apart p w i j a b h first second apart same =
 
 -- live chunks at two places have two buckets
 pub buckets_apart : (p : Parts) (w : Shown) (i j : ℕ) (a b : Chunk) → Show p w →
-  slice_get w.chunks i ≡ Some a → slice_get w.chunks j ≡ Some b → lives w.channel a ≡ true → lives w.channel b ≡ true →
-  i ≢ j → a.bucket ≢ b.bucket
+    slice_get w.chunks i ≡ Some a → slice_get w.chunks j ≡ Some b → lives w.channel a ≡ true → lives w.channel b ≡ true →
+    i ≢ j → a.bucket ≢ b.bucket
 buckets_apart p w i j a b h first second alive living apart same =
     let x = (h.housed i a first alive).owner in let y = (h.housed j b second living).owner in
     let z : Some i ≡ Some j = sym x ∙ ap (slice_get p.owners) same ∙ y in
@@ -55,7 +52,7 @@ pub record Changes (p p' : Parts) (w : Shown) (i : ℕ) (old new : Chunk) (c : C
   pub use_of : old.bucket < p.settings.samples → contains p'.used old.bucket ≡ is_in_transit c old.name
   pub no_use : lives c new ≡ false → contains p'.used old.bucket ≡ false
   pub other_bytes : (bucket : ℕ) → bucket ≢ old.bucket → bucket < p.pool.buckets.count →
-    bytes_at p'.memory (bucket * p.pool.buckets.size) p.pool.buckets.size ≡ bytes_at p.memory (bucket * p.pool.buckets.size) p.pool.buckets.size
+      bytes_at p'.memory (bucket * p.pool.buckets.size) p.pool.buckets.size ≡ bytes_at p.memory (bucket * p.pool.buckets.size) p.pool.buckets.size
   pub bytes : bytes_at p'.memory (old.bucket * p.pool.buckets.size) p.pool.buckets.size ≡ new.bytes
   pub submissions : p'.submissions.values ≡ map (pointer_to p.pool.buckets.size w.chunks) (queued c)
   pub completions : p'.completions.values ≡ map (pointer_to p.pool.buckets.size w.chunks) (completed c)
@@ -74,7 +71,7 @@ abbrev pub changed_shown : Shown → ℕ → Chunk → Channel → Option ℕ �
 changed_shown w i new c shown = record { chunks = set w.chunks i new; channel = c; shown = shown }
 
 pub bucket_named-set : (chunks : List Chunk) (i : ℕ) (old new : Chunk) (name : ℕ) → slice_get chunks i ≡ Some old →
-  new.name ≡ old.name → new.bucket ≡ old.bucket → bucket_named (set chunks i new) name ≡ bucket_named chunks name
+    new.name ≡ old.name → new.bucket ≡ old.bucket → bucket_named (set chunks i new) name ≡ bucket_named chunks name
 bucket_named-set [] i old new name e same there = refl
 bucket_named-set (chunk ∷ chunks) zero old new name e same there =
     let here = same_Some chunk old e in
@@ -84,10 +81,10 @@ bucket_named-set (chunk ∷ chunks) (suc i) old new name e same there =
     rw (bucket_named-set chunks i old new name e same there) refl
 
 pub pointer_to-set : (size : ℕ) (chunks : List Chunk) (i : ℕ) (old new : Chunk) (names : List ℕ) → slice_get chunks i ≡ Some old →
-  new.name ≡ old.name → new.bucket ≡ old.bucket → map (pointer_to size (set chunks i new)) names ≡ map (pointer_to size chunks) names
+    new.name ≡ old.name → new.bucket ≡ old.bucket → map (pointer_to size (set chunks i new)) names ≡ map (pointer_to size chunks) names
 pointer_to-set size chunks i old new names e same there =
     map_agree (pointer_to size (set chunks i new)) (pointer_to size chunks) names
-      (λ name. rw (bucket_named-set chunks i old new name e same there) refl)
+    (λ name. rw (bucket_named-set chunks i old new name e same there) refl)
 
 entry_agrees : (c c' : Channel) (chunk : Chunk) → is_borrowed c' chunk.name ≡ is_borrowed c chunk.name → entry_of c chunk ≡ entry_of c' chunk
 entry_agrees c c' chunk e = rw e refl
@@ -105,25 +102,26 @@ record Then (p p' : Parts) (w : Shown) (i : ℕ) (old new : Chunk) (c : Channel)
 
 -- another chunk's name isn't the changed one's
 other_name : (p p' : Parts) (w : Shown) (i : ℕ) (old new : Chunk) (c : Channel) → Then p p' w i old new c →
-  (j : ℕ) (chunk : Chunk) → j ≢ i → slice_get w.chunks j ≡ Some chunk → chunk.name ≢ old.name
+    (j : ℕ) (chunk : Chunk) → j ≢ i → slice_get w.chunks j ≡ Some chunk → chunk.name ≢ old.name
 other_name p p' w i old new c t j chunk apart e = names_apart p w j i chunk old t.show e t.here apart
 
 entries_then : (p p' : Parts) (w : Shown) (i : ℕ) (old new : Chunk) (c : Channel) → Then p p' w i old new c →
-  p'.entries ≡ map (entry_of c) (set w.chunks i new)
+    p'.entries ≡ map (entry_of c) (set w.chunks i new)
 entries_then p p' w i old new c t =
     t.change.entries ∙ ap (λ entries. set entries i (entry_of c new)) t.show.entries
     ∙ map-set_agree (entry_of w.channel) (entry_of c) w.chunks i new
-        (λ j chunk apart e. entry_agrees w.channel c chunk (t.change.other_borrows chunk.name (other_name p p' w i old new c t j chunk apart e)))
+    (λ j chunk apart e. entry_agrees w.channel c chunk (t.change.other_borrows chunk.name (other_name p p' w i old new c t j chunk apart e)))
 
 -- an entry after the change has the name that stood at its place
 name_stays : (p p' : Parts) (w : Shown) (i : ℕ) (old new : Chunk) (c : Channel) → Then p p' w i old new c →
-  (j : ℕ) (entry : Entry) → slice_get p'.entries j ≡ Some entry →
-  (before : Entry) × (slice_get p.entries j ≡ Some before) × (before.name ≡ entry.name)
+    (j : ℕ) (entry : Entry) → slice_get p'.entries j ≡ Some entry →
+    (before : Entry) × (slice_get p.entries j ≡ Some before) × (before.name ≡ entry.name)
 name_stays p p' w i old new c t j entry e =
     let at = entry_at p w i old t.show t.here in
     elim (written_or_old p.entries i j entry (entry_of c new) (entry_of w.channel old) at (sym (ap (λ entries. slice_get entries j) t.change.entries) ∙ e)) [
-        inl written ↦ (entry_of w.channel old, rw written.0 at, sym (ap (λ x. x.name) written.1 ∙ t.change.same_name))
-      | inr kept ↦ (entry, kept.1, refl) ]
+      | inl written ↦ (entry_of w.channel old, rw written.0 at, sym (ap (λ x. x.name) written.1 ∙ t.change.same_name))
+      | inr kept ↦ (entry, kept.1, refl)
+    ]
 
 rising_then : (p p' : Parts) (w : Shown) (i : ℕ) (old new : Chunk) (c : Channel) → Then p p' w i old new c → AreRising p'.entries
 rising_then p p' w i old new c t j k first second a b below =
@@ -133,7 +131,7 @@ rising_then p p' w i old new c t j k first second a b below =
     let ex = x.2 in let ey = y.2 in omega arith
 
 placed_same : (p p' : Parts) (old new : Chunk) → p'.pool.buckets ≡ p.pool.buckets → new.segment ≡ old.segment → new.bucket ≡ old.bucket →
-  length new.bytes ≡ length old.bytes → IsPlaced p old → IsPlaced p' new
+    length new.bytes ≡ length old.bytes → IsPlaced p old → IsPlaced p' new
 placed_same p p' old new buckets segment bucket long placed = record {
   segment = segment ∙ placed.segment;
   bucket = let b = placed.bucket in let q = ap (λ x. x.count) buckets in omega arith;
@@ -141,20 +139,21 @@ placed_same p p' old new buckets segment bucket long placed = record {
 }
 
 placed_then : (p p' : Parts) (w : Shown) (i : ℕ) (old new : Chunk) (c : Channel) → Then p p' w i old new c →
-  (j : ℕ) (chunk : Chunk) → slice_get (set w.chunks i new) j ≡ Some chunk → IsPlaced p' chunk
+    (j : ℕ) (chunk : Chunk) → slice_get (set w.chunks i new) j ≡ Some chunk → IsPlaced p' chunk
 placed_then p p' w i old new c t j chunk e = elim (written_or_old w.chunks i j chunk new old t.here e) [
-    inl written ↦ subst (IsPlaced p') (sym written.1)
+  | inl written ↦ subst (IsPlaced p') (sym written.1)
       (placed_same p p' old new t.change.buckets t.change.same_segment t.change.same_bucket t.change.same_length (t.show.placed i old t.here))
-  | inr kept ↦ placed_same p p' chunk chunk t.change.buckets refl refl refl (t.show.placed j chunk kept.1) ]
+  | inr kept ↦ placed_same p p' chunk chunk t.change.buckets refl refl refl (t.show.placed j chunk kept.1)
+]
 
 -- another live chunk was alive before, in another bucket
 lived_before : (p p' : Parts) (w : Shown) (i : ℕ) (old new : Chunk) (c : Channel) → Then p p' w i old new c →
-  (j : ℕ) (chunk : Chunk) → j ≢ i → slice_get w.chunks j ≡ Some chunk → lives c chunk ≡ lives w.channel chunk
+    (j : ℕ) (chunk : Chunk) → j ≢ i → slice_get w.chunks j ≡ Some chunk → lives c chunk ≡ lives w.channel chunk
 lived_before p p' w i old new c t j chunk apart e =
     lives_agrees w.channel c chunk (t.change.other_weights chunk.name (other_name p p' w i old new c t j chunk apart e))
 
 housed_else : (p p' : Parts) (w : Shown) (i : ℕ) (old new : Chunk) (c : Channel) → Then p p' w i old new c →
-  (j : ℕ) (chunk : Chunk) → j ≢ i → slice_get w.chunks j ≡ Some chunk → lives c chunk ≡ true → HasBucket p' c j chunk
+    (j : ℕ) (chunk : Chunk) → j ≢ i → slice_get w.chunks j ≡ Some chunk → lives c chunk ≡ true → HasBucket p' c j chunk
 housed_else p p' w i old new c t j chunk apart e alive =
     let alive_before = sym (lived_before p p' w i old new c t j chunk apart e) ∙ alive in
     let there = buckets_apart p w j i chunk old t.show e t.here alive_before t.alive apart in
@@ -165,12 +164,12 @@ housed_else p p' w i old new c t j chunk apart e alive =
       owner = ap (λ owners. slice_get owners chunk.bucket) t.change.owners ∙ before.owner;
       bytes = ap (λ b. bytes_at p'.memory (chunk.bucket * b.size) b.size) t.change.buckets ∙ t.change.other_bytes chunk.bucket there (t.show.placed j chunk e).bucket ∙ before.bytes;
       in_use = λ within. t.change.other_uses chunk.bucket there
-        ∙ before.in_use (let s = ap (λ x. x.samples) t.change.settings in omega arith)
-        ∙ is_in_transit-weight w.channel chunk.name ∙ ap (nat_lt 0) (sym same_weight) ∙ sym (is_in_transit-weight c chunk.name);
+          ∙ before.in_use (let s = ap (λ x. x.samples) t.change.settings in omega arith)
+          ∙ is_in_transit-weight w.channel chunk.name ∙ ap (nat_lt 0) (sym same_weight) ∙ sym (is_in_transit-weight c chunk.name);
     }
 
 housed_here : (p p' : Parts) (w : Shown) (i : ℕ) (old new : Chunk) (c : Channel) → Then p p' w i old new c →
-  lives c new ≡ true → HasBucket p' c i new
+    lives c new ≡ true → HasBucket p' c i new
 housed_here p p' w i old new c t alive =
     let before = t.show.housed i old t.here t.alive in
     let there = t.change.same_bucket in
@@ -178,73 +177,77 @@ housed_here p p' w i old new c t alive =
       marked = ap (is_used p'.pool) there ∙ t.change.mark ∙ alive;
       owner = ap (slice_get p'.owners) there ∙ ap (λ owners. slice_get owners old.bucket) t.change.owners ∙ before.owner;
       bytes = ap (λ bucket. bytes_at p'.memory (bucket * p'.pool.buckets.size) p'.pool.buckets.size) there
-        ∙ ap (λ b. bytes_at p'.memory (old.bucket * b.size) b.size) t.change.buckets ∙ t.change.bytes;
+          ∙ ap (λ b. bytes_at p'.memory (old.bucket * b.size) b.size) t.change.buckets ∙ t.change.bytes;
       in_use = λ within. ap (contains p'.used) there
-        ∙ t.change.use_of (let s = ap (λ x. x.samples) t.change.settings in omega arith)
-        ∙ ap (is_in_transit c) (sym t.change.same_name);
+          ∙ t.change.use_of (let s = ap (λ x. x.samples) t.change.settings in omega arith)
+          ∙ ap (is_in_transit c) (sym t.change.same_name);
     }
 
 housed_then : (p p' : Parts) (w : Shown) (i : ℕ) (old new : Chunk) (c : Channel) → Then p p' w i old new c →
-  (j : ℕ) (chunk : Chunk) → slice_get (set w.chunks i new) j ≡ Some chunk → lives c chunk ≡ true → HasBucket p' c j chunk
+    (j : ℕ) (chunk : Chunk) → slice_get (set w.chunks i new) j ≡ Some chunk → lives c chunk ≡ true → HasBucket p' c j chunk
 housed_then p p' w i old new c t j chunk e alive = elim (written_or_old w.chunks i j chunk new old t.here e) [
-    inl written ↦ subst (λ k. HasBucket p' c k chunk) (sym written.0) (subst (HasBucket p' c i) (sym written.1)
+  | inl written ↦ subst (λ k. HasBucket p' c k chunk) (sym written.0) (subst (HasBucket p' c i) (sym written.1)
       (housed_here p p' w i old new c t (ap (lives c) (sym written.1) ∙ alive)))
-  | inr kept ↦ housed_else p p' w i old new c t j chunk kept.0 kept.1 alive ]
+  | inr kept ↦ housed_else p p' w i old new c t j chunk kept.0 kept.1 alive
+]
 
 occupied_then : (p p' : Parts) (w : Shown) (i : ℕ) (old new : Chunk) (c : Channel) (shown : Option ℕ) → Then p p' w i old new c →
-  (bucket : ℕ) → is_used p'.pool bucket ≡ true → IsOccupied (changed_shown w i new c shown) bucket
+    (bucket : ℕ) → is_used p'.pool bucket ≡ true → IsOccupied (changed_shown w i new c shown) bucket
 occupied_then p p' w i old new c shown t bucket used = elim (same_or_apart bucket old.bucket) [
-    inl same ↦ record {
-      index = i;
-      chunk = new;
-      stands = slice_get-set_same w.chunks i old new t.here;
-      alive = sym t.change.mark ∙ ap (is_used p'.pool) (sym same) ∙ used;
-      there = t.change.same_bucket ∙ sym same;
-    }
+  | inl same ↦ record {
+    index = i;
+    chunk = new;
+    stands = slice_get-set_same w.chunks i old new t.here;
+    alive = sym t.change.mark ∙ ap (is_used p'.pool) (sym same) ∙ used;
+    there = t.change.same_bucket ∙ sym same;
+  }
   | inr apart ↦ (
       let o = t.show.occupied bucket (sym (t.change.other_marks bucket apart) ∙ used) in
       let elsewhere : o.index ≢ i = λ q. apart (sym o.there
-        ∙ ap (λ x. x.bucket) (same_Some o.chunk old (sym o.stands ∙ ap (slice_get w.chunks) q ∙ t.here))) in
+      ∙ ap (λ x. x.bucket) (same_Some o.chunk old (sym o.stands ∙ ap (slice_get w.chunks) q ∙ t.here))) in
       record {
         index = o.index;
         chunk = o.chunk;
         stands = slice_get-set_else w.chunks i o.index new elsewhere ∙ o.stands;
         alive = lived_before p p' w i old new c t o.index o.chunk elsewhere o.stands ∙ o.alive;
         there = o.there;
-      }) ]
+      })
+]
 
 unused_then : (p p' : Parts) (w : Shown) (i : ℕ) (old new : Chunk) (c : Channel) → Then p p' w i old new c →
-  (bucket : ℕ) → is_used p'.pool bucket ≡ false → contains p'.used bucket ≡ false
+    (bucket : ℕ) → is_used p'.pool bucket ≡ false → contains p'.used bucket ≡ false
 unused_then p p' w i old new c t bucket free = elim (same_or_apart bucket old.bucket) [
-    inl same ↦ ap (contains p'.used) same ∙ t.change.no_use (sym t.change.mark ∙ ap (is_used p'.pool) (sym same) ∙ free)
-  | inr apart ↦ t.change.other_uses bucket apart ∙ t.show.unused bucket (sym (t.change.other_marks bucket apart) ∙ free) ]
+  | inl same ↦ ap (contains p'.used) same ∙ t.change.no_use (sym t.change.mark ∙ ap (is_used p'.pool) (sym same) ∙ free)
+  | inr apart ↦ t.change.other_uses bucket apart ∙ t.show.unused bucket (sym (t.change.other_marks bucket apart) ∙ free)
+]
 
 known_then : (p p' : Parts) (w : Shown) (i : ℕ) (old new : Chunk) (c : Channel) (shown : Option ℕ) → Then p p' w i old new c →
-  (name : ℕ) → 0 < weight c name → IsKnown p' (changed_shown w i new c shown) name
+    (name : ℕ) → 0 < weight c name → IsKnown p' (changed_shown w i new c shown) name
 known_then p p' w i old new c shown t name weighs = elim (same_or_apart name old.name) [
-    inl same ↦ record {
-      index = i;
-      chunk = new;
-      stands = slice_get-set_same w.chunks i old new t.here;
-      same_name = t.change.same_name ∙ sym same;
-      within = (let b = t.change.within (subst (λ n. 0 < weight c n) same weighs) in
+  | inl same ↦ record {
+    index = i;
+    chunk = new;
+    stands = slice_get-set_same w.chunks i old new t.here;
+    same_name = t.change.same_name ∙ sym same;
+    within = (let b = t.change.within (subst (λ n. 0 < weight c n) same weighs) in
         let s = ap (λ x. x.samples) t.change.settings in let there = t.change.same_bucket in omega arith);
-    }
+  }
   | inr apart ↦ (
       let k = t.show.known name (subst (λ n. 0 < n) (t.change.other_weights name apart) weighs) in
       let elsewhere : k.index ≢ i = λ q. apart (sym k.same_name
-        ∙ ap (λ x. x.name) (same_Some k.chunk old (sym k.stands ∙ ap (slice_get w.chunks) q ∙ t.here))) in
+      ∙ ap (λ x. x.name) (same_Some k.chunk old (sym k.stands ∙ ap (slice_get w.chunks) q ∙ t.here))) in
       record {
         index = k.index;
         chunk = k.chunk;
         stands = slice_get-set_else w.chunks i k.index new elsewhere ∙ k.stands;
         same_name = k.same_name;
         within = (let b = k.within in let s = ap (λ x. x.samples) t.change.settings in omega arith);
-      }) ]
+      })
+]
 
 -- what the parts show after the change
 pub shows_changed : (p p' : Parts) (w : Shown) (i : ℕ) (old new : Chunk) (c : Channel) (shown : Option ℕ) → Show p w →
-  slice_get w.chunks i ≡ Some old → lives w.channel old ≡ true → Changes p p' w i old new c → Show p' (changed_shown w i new c shown)
+    slice_get w.chunks i ≡ Some old → lives w.channel old ≡ true → Changes p p' w i old new c → Show p' (changed_shown w i new c shown)
 shows_changed p p' w i old new c shown h here alive change =
     let t : Then p p' w i old new c = record { show = h; here = here; alive = alive; change = change } in
     let size = ap (λ b. b.size) change.buckets in
@@ -253,9 +256,9 @@ shows_changed p p' w i old new c shown h here alive change =
       ready = change.ready;
       orderly = change.orderly;
       submissions = change.submissions ∙ sym (pointer_to-set p.pool.buckets.size w.chunks i old new (queued c) here change.same_name change.same_bucket)
-        ∙ ap (λ n. map (pointer_to n (set w.chunks i new)) (queued c)) (sym size);
+          ∙ ap (λ n. map (pointer_to n (set w.chunks i new)) (queued c)) (sym size);
       completions = change.completions ∙ sym (pointer_to-set p.pool.buckets.size w.chunks i old new (completed c) here change.same_name change.same_bucket)
-        ∙ ap (λ n. map (pointer_to n (set w.chunks i new)) (completed c)) (sym size);
+          ∙ ap (λ n. map (pointer_to n (set w.chunks i new)) (completed c)) (sym size);
       borrowed = change.borrowed;
       entries = entries_then p p' w i old new c t;
       rising = rising_then p p' w i old new c t;
@@ -276,10 +279,11 @@ transit_lives c chunk weighs = rw (is_in_transit-weight c chunk.name) (grind (ar
 
 -- a chunk in transit has a bucket that the connection can name
 pub bucket_within : (p : Parts) (w : Shown) (i : ℕ) (chunk : Chunk) → Show p w → slice_get w.chunks i ≡ Some chunk →
-  0 < weight w.channel chunk.name → chunk.bucket < p.settings.samples
+    0 < weight w.channel chunk.name → chunk.bucket < p.settings.samples
 bucket_within p w i chunk h stands weighs =
     let k = h.known chunk.name weighs in
     elim (same_or_apart k.index i) [
-        inl same ↦ (let e = same_Some k.chunk chunk (sym k.stands ∙ ap (slice_get w.chunks) same ∙ stands) in
+      | inl same ↦ (let e = same_Some k.chunk chunk (sym k.stands ∙ ap (slice_get w.chunks) same ∙ stands) in
           let b = ap (λ x. x.bucket) e in let within = k.within in omega arith)
-      | inr apart ↦ absurd (names_apart p w k.index i k.chunk chunk h k.stands stands apart k.same_name) ]
+      | inr apart ↦ absurd (names_apart p w k.index i k.chunk chunk h k.stands stands apart k.same_name)
+    ]

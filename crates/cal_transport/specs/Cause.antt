@@ -1,5 +1,5 @@
 -- Why a command is refused: for each command the first cause that holds, if any does.
-use Rattle.std.specs.Prelude.{ℕ, ◌+◌, ◌^◌, Bool, true, false, not, ◌&&◌, ◌||◌, ◌==◌, nat_lt, nat_le, if◌then◌else◌, length, List, Option, Some, None}
+use Rattle.std.specs.Prelude.{ℕ, ◌+◌, Bool, true, false, not, ◌&&◌, ◌||◌, ◌==◌, nat_lt, nat_le, if◌then◌else◌, length, Option, Some, None}
 use Rattle.std.specs.Int.{is_power_of_two}
 use Rattle.cal_alloc.specs.declared.allocation_strategy.AllocationStrategy.{AllocationStrategy}
 use Rattle.cal_alloc.specs.declared.allocation_strategy.AllocationStrategy.TheVariants.{BestFit, PowerOfTwo, Static}
@@ -9,7 +9,7 @@ use Rattle.cal_transport.specs.declared.command.Command.TheVariants as command
 use Rattle.cal_transport.specs.declared.reply.Refusal.{Refusal}
 use Rattle.cal_transport.specs.declared.reply.Refusal.TheVariants.{BadLayout, ExceedsMaxSupportedAlignment, SizeTooLarge, OutOfMemory, MaxReallocationsReached, SizeOutOfRange, InternalError, NotLoaned, WriteAfterSend, OutsideChunk, OutsideConnection, AlreadyInTransit, ReceiveBufferFull, ReceiveWouldExceedMaxBorrowValue, NotBorrowed, RetrieveBufferFull}
 use Rattle.cal_transport.specs.Settings.{completion_size, is_too_large}
-use Rattle.cal_transport.specs.Ledger.{Ledger, Chunk, Channel, channel_at, buckets_at, current, chunk_named, loaned_chunk, is_free, has_free_bucket, is_unused, queued, completed, is_borrowed, borrow_count, is_in_transit, numbers_below}
+use Rattle.cal_transport.specs.Ledger.{Ledger, Chunk, Channel, channel_at, buckets_at, current, chunk_named, loaned_chunk, has_free_bucket, queued, completed, is_borrowed, borrow_count, is_in_transit}
 
 -- ---- loans
 

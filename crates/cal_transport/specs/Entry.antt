@@ -1,12 +1,12 @@
 -- Records of chunks in the order of their names.
-use Rattle.std.specs.Prelude.{ℕ, ◌<◌, ◌≡◌, ◌≢◌, List, Option, Some, slice_get}
+use Rattle.std.specs.Prelude.{ℕ, ◌<◌, ◌≡◌, ◌≢◌, List, Some, slice_get}
 use Rattle.cal_transport.specs.declared.entry.Entry.{Entry}
 use Rattle.cal_transport.specs.declared.entry.Found.{Found}
 
 -- later chunks have greater names
 abbrev pub AreRising : List Entry → Type 0
 AreRising entries = (i j : ℕ) (first second : Entry) →
-  slice_get entries i ≡ Some first → slice_get entries j ≡ Some second → i < j → first.name < second.name
+    slice_get entries i ≡ Some first → slice_get entries j ≡ Some second → i < j → first.name < second.name
 
 -- no record has the name
 abbrev pub IsUnnamed : List Entry → ℕ → Type 0

@@ -1,5 +1,5 @@
 -- The chunk ledger: what was ever loaned, sent, received, given back and reclaimed, and what follows from it.
-use Rattle.std.specs.Prelude.{ℕ, zero, suc, ◌+◌, ◌-◌, Bool, true, false, not, ◌&&◌, ◌||◌, ◌==◌, nat_lt, if◌then◌else◌, List, [], ◌∷◌, ◌++◌, length, drop, filter, find, replicate, slice_index_or, Option, Some, None, option_to_list}
+use Rattle.std.specs.Prelude.{ℕ, zero, suc, ◌+◌, ◌-◌, Bool, not, ◌&&◌, ◌||◌, ◌==◌, nat_lt, if◌then◌else◌, List, [], ◌∷◌, ◌++◌, length, drop, filter, find, replicate, slice_index_or, Option, Some, None, option_to_list}
 use Rattle.std.specs.List.{list_any}
 use Rattle.cal_alloc.specs.Growth.{Buckets}
 use Rattle.cal_transport.specs.declared.settings.Settings.{Settings}

@@ -1,6 +1,5 @@
 -- What a transport is made of, and when its parts show a ledger.
-use Rattle.std.specs.Prelude.{ℕ, zero, ◌+◌, ◌-◌, ◌*◌, ◌^◌, ◌<◌, ◌≤◌, ◌≡◌, Bool, true, false, not, ◌&&◌, ◌||◌, ◌==◌, nat_lt, nat_le, IsTrue, if◌then◌else◌, length, take, drop, map, replicate, List, [], ◌∷◌, ◌++◌, Option, Some, None, slice_get}
-use Rattle.cal_alloc.specs.Growth.{Buckets}
+use Rattle.std.specs.Prelude.{ℕ, ◌+◌, ◌-◌, ◌*◌, ◌^◌, ◌<◌, ◌≤◌, ◌≡◌, Bool, true, false, ◌||◌, ◌==◌, if◌then◌else◌, length, take, drop, map, replicate, List, [], ◌∷◌, Option, Some, slice_get}
 use Rattle.cal_alloc.specs.Pool.{Pool, is_used}
 use Rattle.cal_alloc.specs.PointerOffset.{pointer_offset}
 use Rattle.cal_queue.specs.Queue.{Queue}
@@ -51,7 +50,7 @@ ledger_of p w = record {
 -- how often a name is queued, borrowed or completed
 abbrev pub weight : Channel → ℕ → ℕ
 weight c name =
-  occurrences name (queued c) + (occurrences name (received c.left) - occurrences name c.released) + occurrences name (completed c)
+    occurrences name (queued c) + (occurrences name (received c.left) - occurrences name c.released) + occurrences name (completed c)
 
 -- each chunk is on its way once at most, and nothing comes back that didn't go
 pub record IsOrderly (c : Channel) : Type 0 where
@@ -157,7 +156,7 @@ pub record Show (p : Parts) (w : Shown) : Type 0 where
   pub rising : AreRising p.entries
   pub placed : (index : ℕ) (chunk : Chunk) → slice_get w.chunks index ≡ Some chunk → IsPlaced p chunk
   pub housed : (index : ℕ) (chunk : Chunk) → slice_get w.chunks index ≡ Some chunk → lives w.channel chunk ≡ true →
-    HasBucket p w.channel index chunk
+      HasBucket p w.channel index chunk
   pub occupied : (bucket : ℕ) → is_used p.pool bucket ≡ true → IsOccupied w bucket
   pub unused : (bucket : ℕ) → is_used p.pool bucket ≡ false → contains p.used bucket ≡ false
   pub known : (name : ℕ) → 0 < weight w.channel name → IsKnown p w name
@@ -180,4 +179,4 @@ pub record StandsFor (p : Parts) (l : Ledger) : Type 0 where
 -- whichever ledger the transport stood for, the reply answers the command there, and the transport stands for the ledger after it
 abbrev pub Does : Parts → ℕ → Command → Reply → Parts → Type 0
 Does old place asked reply new = (l : Ledger) → StandsFor old l →
-  Answers l place asked reply × StandsFor new (after l place asked reply)
+    Answers l place asked reply × StandsFor new (after l place asked reply)

@@ -1,5 +1,5 @@
 -- The rules of refusal, over the parts of a transport and a chunk's entry, and what each command does by its answer.
-use Rattle.std.specs.Prelude.{ℕ, ◌+◌, ◌≡◌, Bool, true, false, not, ◌&&◌, ◌||◌, nat_lt, nat_le, if◌then◌else◌, length, List, Option, Some, None, Result, Ok, Err}
+use Rattle.std.specs.Prelude.{ℕ, ◌+◌, not, ◌||◌, nat_lt, nat_le, if◌then◌else◌, length, List, Option, Some, None, Result, Ok, Err}
 use Rattle.cal_alloc.specs.declared.shm_allocator.ShmAllocationError.{ShmAllocationError}
 use Rattle.cal_alloc.specs.declared.shm_allocator.ShmAllocationError.TheVariants.{ExceedsMaxSupportedAlignment, SizeTooLarge, OutOfMemory, SizeIsZero}
 use Rattle.cal_transport.specs.declared.reply.Refusal.TheVariants as refusal
@@ -20,38 +20,38 @@ use Rattle.cal_transport.specs.Parts.{Parts, Does}
 
 abbrev pub write_rule : Parts → Entry → ℕ → ℕ → Option Refusal
 write_rule p entry at length =
-  if not entry.loaned then Some NotLoaned
-  else if entry.sent then Some WriteAfterSend
-  else if nat_lt p.pool.buckets.size (at + length) then Some OutsideChunk
-  else None
+    if not entry.loaned then Some NotLoaned
+    else if entry.sent then Some WriteAfterSend
+    else if nat_lt p.pool.buckets.size (at + length) then Some OutsideChunk
+    else None
 
 abbrev pub send_rule : Parts → ℕ → Entry → Option Refusal
 send_rule p channel entry =
-  if not entry.loaned then Some NotLoaned
-  else if nat_le p.settings.channels channel || nat_le p.settings.samples entry.bucket then Some OutsideConnection
-  else if contains p.used entry.bucket then Some AlreadyInTransit
-  else if is_full p.submissions then Some ReceiveBufferFull
-  else None
+    if not entry.loaned then Some NotLoaned
+    else if nat_le p.settings.channels channel || nat_le p.settings.samples entry.bucket then Some OutsideConnection
+    else if contains p.used entry.bucket then Some AlreadyInTransit
+    else if is_full p.submissions then Some ReceiveBufferFull
+    else None
 
 abbrev pub receive_rule : Parts → ℕ → Option Refusal
 receive_rule p channel =
-  if nat_le p.settings.channels channel then Some OutsideConnection
-  else if nat_le p.settings.borrow p.borrowed then Some ReceiveWouldExceedMaxBorrowValue
-  else None
+    if nat_le p.settings.channels channel then Some OutsideConnection
+    else if nat_le p.settings.borrow p.borrowed then Some ReceiveWouldExceedMaxBorrowValue
+    else None
 
 -- of a channel that is there
 abbrev pub read_rule : Parts → Entry → ℕ → ℕ → Option Refusal
 read_rule p entry at length =
-  if not entry.borrowed then Some NotBorrowed
-  else if nat_lt p.pool.buckets.size (at + length) then Some OutsideChunk
-  else None
+    if not entry.borrowed then Some NotBorrowed
+    else if nat_lt p.pool.buckets.size (at + length) then Some OutsideChunk
+    else None
 
 -- of a channel that is there
 abbrev pub release_rule : Parts → Entry → Option Refusal
 release_rule p entry =
-  if not entry.borrowed then Some NotBorrowed
-  else if is_full p.completions then Some RetrieveBufferFull
-  else None
+    if not entry.borrowed then Some NotBorrowed
+    else if is_full p.completions then Some RetrieveBufferFull
+    else None
 
 -- ---- a static memory's refusals
 

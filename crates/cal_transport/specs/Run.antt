@@ -1,6 +1,5 @@
 -- Runs of the ledger: steps for a list of commands, and the chunks that are in transit after them.
-use Rattle.std.specs.Prelude.{ℕ, ◌+◌, ◌<◌, ◌≡◌, Bool, true, false, not, ◌&&◌, ◌==◌, nat_le, IsTrue, MatchBool, length, filter, map, flat_map, List, [], ◌∷◌, Option, Some, None}
-use Rattle.cal_alloc.specs.declared.allocation_strategy.AllocationStrategy.{AllocationStrategy}
+use Rattle.std.specs.Prelude.{ℕ, ◌+◌, ◌<◌, ◌≡◌, ◌&&◌, ◌==◌, IsTrue, MatchBool, length, filter, map, flat_map, List, [], ◌∷◌, Some, None}
 use Rattle.cal_transport.specs.declared.settings.Settings.{Settings}
 use Rattle.cal_transport.specs.declared.command.Command.{Command}
 use Rattle.cal_transport.specs.declared.command.Command.TheVariants as command
@@ -11,7 +10,7 @@ use Rattle.cal_transport.specs.declared.run.RunError.TheVariants.{Create, NoMemo
 use Rattle.cal_transport.specs.Settings.{create_cause}
 use Rattle.cal_transport.specs.Built.{is_built}
 use Rattle.cal_transport.specs.Ledger.{Ledger, Chunk, first_ledger, channel_at, buckets_at, numbers_below, is_in_transit}
-use Rattle.cal_transport.specs.Cause.{cause, needs_segment, is_static}
+use Rattle.cal_transport.specs.Cause.{cause, needs_segment}
 use Rattle.cal_transport.specs.Step.{Answers, after, slot_of}
 
 -- the chunks in transit on a channel that have this bucket: one at most

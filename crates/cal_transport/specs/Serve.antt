@@ -1,13 +1,12 @@
 -- What serving one command does, by its answer.
-use Rattle.std.specs.Prelude.{ℕ, ◌<◌, ◌≡◌, Result, Ok, Err, None}
+use Rattle.std.specs.Prelude.{◌≡◌}
 use Rattle.cal_transport.specs.declared.command.Command.{Command}
 use Rattle.cal_transport.specs.declared.command.Command.TheVariants as command
-use Rattle.cal_transport.specs.declared.reply.Reply.{Reply}
 use Rattle.cal_transport.specs.declared.run.ServeError.{ServeError}
 use Rattle.cal_transport.specs.declared.run.ServeError.TheVariants.{NoMemory, NotBuilt}
 use Rattle.cal_transport.specs.Ledger.{Ledger}
 use Rattle.cal_transport.specs.Run.{TakesMemory}
-use Rattle.cal_transport.specs.Parts.{Parts, StandsFor, Does}
+use Rattle.cal_transport.specs.Parts.{Parts, StandsFor}
 
 -- memory ran out at a command that takes some, in every ledger that the transport stands for
 abbrev pub RanOut : Parts → Command → Type 0

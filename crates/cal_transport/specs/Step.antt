@@ -1,15 +1,13 @@
 -- A step of the ledger: the reply that a command owes, and the ledger after it.
-use Rattle.std.specs.Prelude.{ℕ, zero, ◌+◌, ◌*◌, ◌/◌, ◌%◌, ◌≡◌, Bool, true, false, not, ◌&&◌, ◌||◌, ◌==◌, nat_lt, nat_le, IsTrue, if◌then◌else◌, length, take, drop, map, replicate, slice_set, List, [], ◌∷◌, ◌++◌, Option, Some, None, option_map, option_to_list}
-use Rattle.cal_alloc.specs.declared.allocation_strategy.AllocationStrategy.{AllocationStrategy}
-use Rattle.cal_alloc.specs.Growth.{Buckets}
+use Rattle.std.specs.Prelude.{ℕ, ◌+◌, ◌*◌, ◌/◌, ◌%◌, ◌≡◌, Bool, true, false, ◌&&◌, ◌==◌, nat_lt, IsTrue, if◌then◌else◌, length, take, drop, map, replicate, slice_set, List, [], ◌∷◌, ◌++◌, Option, Some, None, option_map, option_to_list}
 use Rattle.cal_transport.specs.declared.command.Command.{Command}
 use Rattle.cal_transport.specs.declared.command.Command.TheVariants as command
 use Rattle.cal_transport.specs.declared.reply.Reply.{Reply}
-use Rattle.cal_transport.specs.declared.reply.Reply.TheVariants.{Loaned, Written, Sent, Received, Shown, Released, Reclaimed, Discarded, Counted, Refused, Transit}
+use Rattle.cal_transport.specs.declared.reply.Reply.TheVariants.{Loaned, Written, Sent, Received, Shown, Released, Reclaimed, Discarded, Counted, Refused}
 use Rattle.cal_transport.specs.declared.reply.Slot.{Slot}
 use Rattle.cal_transport.specs.declared.reply.Count.{Count}
 use Rattle.cal_transport.specs.declared.reply.Refusal.{Refusal}
-use Rattle.cal_transport.specs.Ledger.{Ledger, Chunk, Channel, Departure, ByReceive, ByOverflow, channel_at, buckets_at, current, chunk_named, is_free, is_mapped, queued, completed, active_segments, mapped_segments}
+use Rattle.cal_transport.specs.Ledger.{Ledger, Chunk, Channel, ByReceive, ByOverflow, channel_at, buckets_at, current, chunk_named, is_free, is_mapped, queued, completed, active_segments, mapped_segments}
 use Rattle.cal_transport.specs.Cause.{cause, serves, next_segment, is_buffer_full}
 
 -- ---- slots

@@ -6,95 +6,76 @@ ghost use Rattle.cal_transport.specs.Examples.{OneChunk, RefusedLoans, GrowsByPo
 
 pub fn one_chunk()
     ensures computed { OneChunk }
-{
-}
+{}
 
 pub fn refused_loans()
     ensures computed { RefusedLoans }
-{
-}
+{}
 
 pub fn grows_by_powers()
     ensures computed { GrowsByPowers }
-{
-}
+{}
 
 pub fn best_fit_grows()
     ensures computed { BestFitGrows }
-{
-}
+{}
 
 pub fn power_of_two_grows()
     ensures computed { PowerOfTwoGrows }
-{
-}
+{}
 
 pub fn overflow_takes_the_oldest()
     ensures computed { OverflowTakesTheOldest }
-{
-}
+{}
 
 pub fn full_channel_refuses()
     ensures computed { FullChannelRefuses }
-{
-}
+{}
 
 pub fn completion_queue_holds_three()
     ensures computed { CompletionQueueHoldsThree }
-{
-}
+{}
 
 pub fn full_completion_queue_refuses()
     ensures computed { FullCompletionQueueRefuses }
-{
-}
+{}
 
 pub fn two_channels_hold_a_chunk()
     ensures computed { TwoChannelsHoldAChunk }
-{
-}
+{}
 
 pub fn many_segments()
     ensures computed { ManySegments }
-{
-}
+{}
 
 pub fn segments_retire()
     ensures computed { SegmentsRetire }
-{
-}
+{}
 
 pub fn overflow_frees_a_bucket()
     ensures computed { OverflowFreesABucket }
-{
-}
+{}
 
 pub fn refusals_on_the_way()
     ensures computed { RefusalsOnTheWay }
-{
-}
+{}
 
 pub fn writes_stay_inside()
     ensures computed { WritesStayInside }
-{
-}
+{}
 
 pub fn refused_growth()
     ensures computed { RefusedGrowth }
-{
-}
+{}
 
 pub fn last_segment_refuses()
     ensures computed { LastSegmentRefuses }
-{
-}
+{}
 
 pub fn given_back_once()
     ensures computed { GivenBackOnce }
-{
-}
+{}
 
 pub fn create_causes()
     ensures computed { CreateCauses }
-{
-}
+{}

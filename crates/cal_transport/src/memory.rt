@@ -8,7 +8,9 @@ pub(crate) fn overwrite(memory: &mut Vec<u8>, place: usize, bytes: &[u8])
     requires within { place + length bytes.now ≤ vec_len memory.old }
     ensures written { memory.new.items ≡ overwritten memory.old.items place bytes.now }
 {
-    memory.slice_mut(place..place + bytes.len()).copy_from_slice(bytes);
+    memory
+        .slice_mut(place..place + bytes.len())
+        .copy_from_slice(bytes);
 }
 
 /// Puts zeros over the bytes that stand at a place.

@@ -84,12 +84,7 @@ fn is_built(settings: &Settings) -> bool
 
 impl Transport {
     /// Answers one command. A chunk that it loans is named by the command's place, which is greater than all names.
-    fn serve(
-        &mut self,
-        alloc: Global,
-        place: usize,
-        command: &Command,
-    ) -> Result<Reply, ServeError>
+    fn serve(&mut self, alloc: Global, place: usize, command: &Command) -> Result<Reply, ServeError>
         requires below { AreBelow self.old.entries place }
         requires room { 0 < self.old.room }
         ensures served { IfOk result (λ reply. Does self.old place command.now reply self.new) }

@@ -1,5 +1,4 @@
-use Rattle.std.proofs.Common.{◌-◌, ◌≡◌, ◌<◌, ◌≤◌, slice_get, length, Some, ℕ}
-use Rattle.cal_transport.specs.declared.entry.Entry.{Entry}
+use Rattle.std.proofs.Common.{◌-◌}
 use Rattle.cal_transport.proofs.Lookup.{Narrowed}
 use Rattle.cal_transport.proofs.entry.find_entry.Given as goal
 

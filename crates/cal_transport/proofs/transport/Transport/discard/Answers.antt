@@ -1,12 +1,11 @@
-use Rattle.std.proofs.Common.{◌≡◌, ◌+◌, ◌*◌, ◌/◌, ◌<◌, ◌≤◌, ℕ, Bool, true, false, Option, Some, None, length, take, drop, sym, ap, ◌∙◌, subst, arith}
+use Rattle.std.proofs.Common.{◌*◌, sym, ap, ◌∙◌, subst, arith}
 use Rattle.std.proofs.lemmas.Option.{slice_get_within}
-use Rattle.cal_alloc.specs.PointerOffset.{pointer_offset, offset_of}
+use Rattle.cal_alloc.specs.PointerOffset.{pointer_offset}
 use Rattle.cal_transport.specs.declared.command.Command.TheVariants as command
-use Rattle.cal_transport.specs.declared.reply.Reply.TheVariants.{Sent, Received, Shown, Released, Reclaimed, Discarded}
-use Rattle.cal_transport.specs.Entry.{IsUnnamed, IsFound, LeadsToEntry}
-use Rattle.cal_transport.specs.Parts.{Parts, Does}
+use Rattle.cal_transport.specs.declared.reply.Reply.TheVariants.{Discarded}
+use Rattle.cal_transport.specs.Entry.{IsUnnamed, IsFound}
+use Rattle.cal_transport.specs.Parts.{Does}
 use Rattle.cal_transport.specs.PartsOf.{parts_of}
-use Rattle.cal_transport.specs.Rules.{send_rule, receive_rule, read_rule, release_rule}
 use Rattle.cal_transport.proofs.Steps.{entry_within, sound_after}
 use Rattle.cal_transport.proofs.Changing.{not_true, not_false}
 use Rattle.std.proofs.Common.{cond}
@@ -17,11 +16,11 @@ use Rattle.cal_transport.proofs.transport.Transport.discard.Goals as goal
 
 pub returns-in_default-clause-step : goal.returns-in_default-clause-step
 returns-in_default-clause-step c =
-  discard_unnamed c.args.self.now c.args.chunk (subst (λ es. IsUnnamed es c.args.chunk) (c.deref.ensures.value ∙ ap (λ p. p.entries) c.self.view_is) c.in_default.ensures.found)
+    discard_unnamed c.args.self.now c.args.chunk (subst (λ es. IsUnnamed es c.args.chunk) (c.deref.ensures.value ∙ ap (λ p. p.entries) c.self.view_is) c.in_default.ensures.found)
 
 pub returns-then-not-found-clause-step : goal.returns-then-not-found-clause-step
 returns-then-not-found-clause-step c =
-  discard_ended c.args.self.now c.args.chunk c.in-Some.found (subst (λ es. IsFound es c.args.chunk c.in-Some.found) (c.deref.ensures.value ∙ ap (λ p. p.entries) c.self.view_is) c.in-Some.ensures.found) (not_true c.in-Some.found.entry.loaned c.if-not-found.true)
+    discard_ended c.args.self.now c.args.chunk c.in-Some.found (subst (λ es. IsFound es c.args.chunk c.in-Some.found) (c.deref.ensures.value ∙ ap (λ p. p.entries) c.self.view_is) c.in-Some.ensures.found) (not_true c.in-Some.found.entry.loaned c.if-not-found.true)
 
 pub overflow_mul-found : goal.overflow_mul-found
 overflow_mul-found c =
@@ -46,4 +45,4 @@ invariant_of-self c = sound_after (parts_of c.self.inside) _ 0 (command.Discard 
 
 pub returns-clause-step : goal.returns-clause-step
 returns-clause-step c =
-  λ place. subst (λ p. Does p place (command.Discard c.args.chunk) Discarded (discarded_parts (parts_of c.self.inside) c.in-Some.found.index c.in-Some.found.entry c.give_back_unless.new.pool)) c.self.view_is (discarded (parts_of c.self.inside) c.args.chunk c.new-pointer.result c.in-Some.found c.give_back_unless.new.pool (subst (λ es. IsFound es c.args.chunk c.in-Some.found) c.deref.ensures.value c.in-Some.ensures.found) (not_false c.in-Some.found.entry.loaned c.if-not-found.false) (c.new-pointer.ensures ∙ ap (λ n. pointer_offset (c.in-Some.found.entry.bucket * n) 0) c.bucket_size.ensures.value) (c.give_back_unless.ensures.freed ∙ ap (λ b. cond b c.self.inside.pool (given_back c.self.inside.pool c.new-pointer.result)) (c.is_in_transit-in_transit.ensures.used ∙ ap (λ p. contains p.used c.in-Some.found.entry.bucket) (sym c.self.view_is))) place)
+    λ place. subst (λ p. Does p place (command.Discard c.args.chunk) Discarded (discarded_parts (parts_of c.self.inside) c.in-Some.found.index c.in-Some.found.entry c.give_back_unless.new.pool)) c.self.view_is (discarded (parts_of c.self.inside) c.args.chunk c.new-pointer.result c.in-Some.found c.give_back_unless.new.pool (subst (λ es. IsFound es c.args.chunk c.in-Some.found) c.deref.ensures.value c.in-Some.ensures.found) (not_false c.in-Some.found.entry.loaned c.if-not-found.false) (c.new-pointer.ensures ∙ ap (λ n. pointer_offset (c.in-Some.found.entry.bucket * n) 0) c.bucket_size.ensures.value) (c.give_back_unless.ensures.freed ∙ ap (λ b. cond b c.self.inside.pool (given_back c.self.inside.pool c.new-pointer.result)) (c.is_in_transit-in_transit.ensures.used ∙ ap (λ p. contains p.used c.in-Some.found.entry.bucket) (sym c.self.view_is))) place)

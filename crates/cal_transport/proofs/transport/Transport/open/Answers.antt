@@ -1,6 +1,6 @@
-use Rattle.std.proofs.Common.{◌≡◌, ◌≤◌, ◌-◌, vec_len, vec_capacity, ℕ, replicate, Some, None, Ok, sym, ap, ◌∙◌, subst, arith}
+use Rattle.std.proofs.Common.{◌-◌, vec_len, vec_capacity, replicate, sym, ap, ◌∙◌, subst}
 use Rattle.cal_queue.specs.Queue as queue
-use Rattle.cal_transport.specs.Settings.{CanMake, clamped, first_buckets, payload}
+use Rattle.cal_transport.specs.Settings.{CanMake}
 use Rattle.cal_transport.proofs.Opening.{can_make, can_clamped, opened}
 use Rattle.cal_transport.proofs.transport.Transport.open.Goals as goal
 

@@ -1,14 +1,8 @@
-use Rattle.std.proofs.Common.{◌≡◌, ◌+◌, ◌-◌, ◌*◌, ◌/◌, ◌<◌, ◌≤◌, ℕ, Bool, true, false, Option, Some, None, length, take, drop, sym, ap, ◌∙◌, subst, arith}
-use Rattle.std.proofs.lemmas.Option.{slice_get_within}
-use Rattle.cal_alloc.specs.PointerOffset.{pointer_offset, offset_of}
-use Rattle.cal_transport.specs.declared.command.Command.TheVariants as command
-use Rattle.cal_transport.specs.declared.reply.Reply.TheVariants.{Sent, Received, Shown, Released, Reclaimed, Discarded}
-use Rattle.cal_transport.specs.Entry.{IsUnnamed, IsFound, LeadsToEntry}
-use Rattle.cal_transport.specs.Parts.{Parts, Does}
+use Rattle.std.proofs.Common.{◌≡◌, ◌+◌, ◌-◌, ◌*◌, ◌<◌, take, drop, sym, ap, ◌∙◌, subst, arith}
+use Rattle.cal_transport.specs.Entry.{IsUnnamed, IsFound}
 use Rattle.cal_transport.specs.PartsOf.{parts_of}
-use Rattle.cal_transport.specs.Rules.{send_rule, receive_rule, read_rule, release_rule}
-use Rattle.cal_transport.proofs.Steps.{entry_within, sound_after}
-use Rattle.cal_transport.proofs.Changing.{le_when}
+use Rattle.cal_transport.specs.Rules.{read_rule}
+use Rattle.cal_transport.proofs.Steps.{entry_within}
 use Rattle.cal_transport.proofs.Reading.{read_unnamed, read_refused, read_of, may_read}
 use Rattle.cal_transport.proofs.transport.Transport.read.Goals as goal
 
@@ -18,8 +12,8 @@ returns-in_default c = record { step = read_unnamed c.args.self.now c.args.chann
 pub returns-in-Some-read_refusal : goal.returns-in-Some-read_refusal
 returns-in-Some-read_refusal c = record {
   step = read_refused c.args.self.now c.args.channel c.args.chunk c.args.at c.args.length c.in-Some.found c.in-Some-read_refusal.refusal (subst (λ p. c.args.channel < p.settings.channels) c.self.view_is (let t : c.args.channel < c.self.inside.settings.channels = omega arith in t))
-    (subst (λ es. IsFound es c.args.chunk c.in-Some.found) (c.deref.ensures.value ∙ ap (λ p. p.entries) c.self.view_is) c.in-Some.ensures.found)
-    (sym c.in-Some-read_refusal.ensures.rule);
+      (subst (λ es. IsFound es c.args.chunk c.in-Some.found) (c.deref.ensures.value ∙ ap (λ p. p.entries) c.self.view_is) c.in-Some.ensures.found)
+      (sym c.in-Some-read_refusal.ensures.rule);
 }
 
 pub overflow_mul-place : goal.overflow_mul-place
@@ -53,9 +47,9 @@ slice_bounds-result-end c =
 pub returns : goal.returns
 returns c = record {
   step = read_of c.args.self.now c.args.channel c.args.chunk c.args.at c.args.length c.in-Some.found _ (subst (λ p. c.args.channel < p.settings.channels) c.self.view_is (let t : c.args.channel < c.self.inside.settings.channels = omega arith in t))
-    (subst (λ es. IsFound es c.args.chunk c.in-Some.found) (c.deref.ensures.value ∙ ap (λ p. p.entries) c.self.view_is) c.in-Some.ensures.found)
-    c.in_default-read_refusal.ensures.rule
-    (let long : c.in-Some.found.entry.bucket * c.bucket_size.result + c.args.at + c.args.length - (c.in-Some.found.entry.bucket * c.bucket_size.result + c.args.at) ≡ c.args.length = omega arith in
+      (subst (λ es. IsFound es c.args.chunk c.in-Some.found) (c.deref.ensures.value ∙ ap (λ p. p.entries) c.self.view_is) c.in-Some.ensures.found)
+      c.in_default-read_refusal.ensures.rule
+      (let long : c.in-Some.found.entry.bucket * c.bucket_size.result + c.args.at + c.args.length - (c.in-Some.found.entry.bucket * c.bucket_size.result + c.args.at) ≡ c.args.length = omega arith in
       ap (λ n. take n (drop (c.in-Some.found.entry.bucket * c.bucket_size.result + c.args.at) c.deref-2.result.now)) long
       ∙ ap (λ n. take c.args.length (drop (c.in-Some.found.entry.bucket * n + c.args.at) c.deref-2.result.now)) c.bucket_size.ensures.value
       ∙ ap (λ m. take c.args.length (drop (c.in-Some.found.entry.bucket * c.self.inside.pool.buckets.size + c.args.at) m)) c.deref-2.ensures.value

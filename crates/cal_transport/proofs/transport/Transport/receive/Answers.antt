@@ -1,14 +1,13 @@
-use Rattle.std.proofs.Common.{◌≡◌, ◌+◌, ◌*◌, ◌/◌, ◌<◌, ◌≤◌, ℕ, Bool, true, false, Option, Some, None, length, take, drop, sym, ap, ◌∙◌, subst, arith}
+use Rattle.std.proofs.Common.{◌/◌, Some, sym, ap, ◌∙◌, subst, arith}
 use Rattle.std.proofs.lemmas.Option.{slice_get_within}
-use Rattle.cal_alloc.specs.PointerOffset.{pointer_offset, offset_of}
+use Rattle.cal_alloc.specs.PointerOffset.{offset_of}
 use Rattle.cal_transport.specs.declared.command.Command.TheVariants as command
-use Rattle.cal_transport.specs.declared.reply.Reply.TheVariants.{Sent, Received, Shown, Released, Reclaimed, Discarded}
-use Rattle.cal_transport.specs.Entry.{IsUnnamed, IsFound, LeadsToEntry}
-use Rattle.cal_transport.specs.Parts.{Parts, Does}
+use Rattle.cal_transport.specs.declared.reply.Reply.TheVariants.{Received}
+use Rattle.cal_transport.specs.Entry.{LeadsToEntry}
+use Rattle.cal_transport.specs.Parts.{Does}
 use Rattle.cal_transport.specs.PartsOf.{parts_of}
-use Rattle.cal_transport.specs.Rules.{send_rule, receive_rule, read_rule, release_rule}
-use Rattle.cal_transport.proofs.Steps.{entry_within, sound_after}
-use Rattle.cal_transport.proofs.Changing.{le_when}
+use Rattle.cal_transport.specs.Rules.{receive_rule}
+use Rattle.cal_transport.proofs.Steps.{sound_after}
 use Rattle.std.specs.List.{slice_get}
 use Rattle.cal_transport.proofs.Receiving.{receive_refused, received_parts, received_by, receive_leads}
 use Rattle.cal_transport.proofs.transport.Transport.receive.Goals as goal
@@ -16,7 +15,7 @@ use Rattle.cal_transport.proofs.transport.Transport.receive.Goals as goal
 pub entry_at-found-requires : goal.entry_at-found-requires
 entry_at-found-requires c = record {
   leads = subst (λ es. LeadsToEntry es c.deref-2.result.now (c.offset.result / c.bucket_size.result)) (sym c.deref.ensures.value)
-    (subst (λ os. LeadsToEntry c.self.inside.entries.items os (c.offset.result / c.bucket_size.result)) (sym c.deref-2.ensures.value)
+      (subst (λ os. LeadsToEntry c.self.inside.entries.items os (c.offset.result / c.bucket_size.result)) (sym c.deref-2.ensures.value)
       (receive_leads (parts_of c.self.inside) c.self.invariant.0 c.in-Some-pop.value (c.offset.result / c.bucket_size.result) c.self.invariant.1 c.in-Some-pop.ensures.oldest (ap (λ n. c.offset.result / n) c.bucket_size.ensures.value ∙ ap (λ n. n / c.self.inside.pool.buckets.size) (c.offset.ensures ∙ ap offset_of c.from_value-pointer.ensures))));
 }
 
@@ -30,8 +29,8 @@ invariant_of-self-2 c = sound_after (parts_of c.self.inside) _ 0 (command.Receiv
 
 pub returns-clause-step : goal.returns-clause-step
 returns-clause-step c =
-  λ place. subst (λ p. Does p place (command.Receive c.args.channel) (Received (Some (record { chunk = c.entry_at-found.result.entry.name; segment = 0; place = c.offset-2.result }))) (record (received_parts (parts_of c.self.inside) c.entry_at-found.result.index c.entry_at-found.result.entry) { submissions = c.pop.new.self })) c.self.view_is (received_by (parts_of c.self.inside) c.args.channel c.in-Some-pop.value c.entry_at-found.result.index (c.offset.result / c.bucket_size.result) c.offset-2.result c.entry_at-found.result.entry c.pop.new.self (c.in_default.ensures.rule ∙ ap (λ p. receive_rule p c.args.channel) (sym c.self.view_is)) c.in-Some-pop.ensures.oldest (ap (λ n. c.offset.result / n) c.bucket_size.ensures.value ∙ ap (λ n. n / c.self.inside.pool.buckets.size) (c.offset.ensures ∙ ap offset_of c.from_value-pointer.ensures)) (ap (λ o. slice_get o (c.offset.result / c.bucket_size.result)) (sym c.deref-2.ensures.value) ∙ c.entry_at-found.ensures.owner) (ap (λ e. slice_get e c.entry_at-found.result.index) (sym c.deref.ensures.value) ∙ c.entry_at-found.ensures.entry) (c.offset-2.ensures ∙ ap offset_of c.from_value-pointer.ensures) c.in-Some-pop.ensures.left place)
+    λ place. subst (λ p. Does p place (command.Receive c.args.channel) (Received (Some (record { chunk = c.entry_at-found.result.entry.name; segment = 0; place = c.offset-2.result }))) (record (received_parts (parts_of c.self.inside) c.entry_at-found.result.index c.entry_at-found.result.entry) { submissions = c.pop.new.self })) c.self.view_is (received_by (parts_of c.self.inside) c.args.channel c.in-Some-pop.value c.entry_at-found.result.index (c.offset.result / c.bucket_size.result) c.offset-2.result c.entry_at-found.result.entry c.pop.new.self (c.in_default.ensures.rule ∙ ap (λ p. receive_rule p c.args.channel) (sym c.self.view_is)) c.in-Some-pop.ensures.oldest (ap (λ n. c.offset.result / n) c.bucket_size.ensures.value ∙ ap (λ n. n / c.self.inside.pool.buckets.size) (c.offset.ensures ∙ ap offset_of c.from_value-pointer.ensures)) (ap (λ o. slice_get o (c.offset.result / c.bucket_size.result)) (sym c.deref-2.ensures.value) ∙ c.entry_at-found.ensures.owner) (ap (λ e. slice_get e c.entry_at-found.result.index) (sym c.deref.ensures.value) ∙ c.entry_at-found.ensures.entry) (c.offset-2.ensures ∙ ap offset_of c.from_value-pointer.ensures) c.in-Some-pop.ensures.left place)
 
 pub returns-in-Some-clause-step : goal.returns-in-Some-clause-step
 returns-in-Some-clause-step c =
-  receive_refused c.args.self.now c.args.channel c.in-Some.refusal (sym c.in-Some.ensures.rule)
+    receive_refused c.args.self.now c.args.channel c.in-Some.refusal (sym c.in-Some.ensures.rule)

@@ -1,24 +1,23 @@
-use Rattle.std.proofs.Common.{◌≡◌, ◌+◌, ◌*◌, ◌/◌, ◌<◌, ◌≤◌, ℕ, Bool, true, false, Option, Some, None, length, take, drop, sym, ap, ◌∙◌, subst, arith}
+use Rattle.std.proofs.Common.{◌*◌, ◌<◌, sym, ap, ◌∙◌, subst, arith}
 use Rattle.std.proofs.lemmas.Option.{slice_get_within}
-use Rattle.cal_alloc.specs.PointerOffset.{pointer_offset, offset_of}
+use Rattle.cal_alloc.specs.PointerOffset.{pointer_offset}
 use Rattle.cal_transport.specs.declared.command.Command.TheVariants as command
-use Rattle.cal_transport.specs.declared.reply.Reply.TheVariants.{Sent, Received, Shown, Released, Reclaimed, Discarded}
-use Rattle.cal_transport.specs.Entry.{IsUnnamed, IsFound, LeadsToEntry}
-use Rattle.cal_transport.specs.Parts.{Parts, Does}
+use Rattle.cal_transport.specs.declared.reply.Reply.TheVariants.{Released}
+use Rattle.cal_transport.specs.Entry.{IsUnnamed, IsFound}
+use Rattle.cal_transport.specs.Parts.{Does}
 use Rattle.cal_transport.specs.PartsOf.{parts_of}
-use Rattle.cal_transport.specs.Rules.{send_rule, receive_rule, read_rule, release_rule}
+use Rattle.cal_transport.specs.Rules.{release_rule}
 use Rattle.cal_transport.proofs.Steps.{entry_within, sound_after}
-use Rattle.cal_transport.proofs.Changing.{le_when}
 use Rattle.cal_transport.proofs.Releasing.{released_parts, release_unnamed, release_refused, released_by, release_joins, may_release, borrows_some}
 use Rattle.cal_transport.proofs.transport.Transport.release.Goals as goal
 
 pub returns-in_default-clause-step : goal.returns-in_default-clause-step
 returns-in_default-clause-step c =
-  release_unnamed c.args.self.now c.args.channel c.args.chunk (subst (λ p. c.args.channel < p.settings.channels) c.self.view_is (let t : c.args.channel < c.self.inside.settings.channels = omega arith in t)) (subst (λ es. IsUnnamed es c.args.chunk) (c.deref.ensures.value ∙ ap (λ p. p.entries) c.self.view_is) c.in_default.ensures.found)
+    release_unnamed c.args.self.now c.args.channel c.args.chunk (subst (λ p. c.args.channel < p.settings.channels) c.self.view_is (let t : c.args.channel < c.self.inside.settings.channels = omega arith in t)) (subst (λ es. IsUnnamed es c.args.chunk) (c.deref.ensures.value ∙ ap (λ p. p.entries) c.self.view_is) c.in_default.ensures.found)
 
 pub returns-in-Some-release_refusal-clause-step : goal.returns-in-Some-release_refusal-clause-step
 returns-in-Some-release_refusal-clause-step c =
-  release_refused c.args.self.now c.args.channel c.args.chunk c.in-Some.found c.in-Some-release_refusal.refusal (subst (λ p. c.args.channel < p.settings.channels) c.self.view_is (let t : c.args.channel < c.self.inside.settings.channels = omega arith in t))
+    release_refused c.args.self.now c.args.channel c.args.chunk c.in-Some.found c.in-Some-release_refusal.refusal (subst (λ p. c.args.channel < p.settings.channels) c.self.view_is (let t : c.args.channel < c.self.inside.settings.channels = omega arith in t))
     (subst (λ es. IsFound es c.args.chunk c.in-Some.found) (c.deref.ensures.value ∙ ap (λ p. p.entries) c.self.view_is) c.in-Some.ensures.found)
     (sym c.in-Some-release_refusal.ensures.rule)
 
@@ -45,4 +44,4 @@ invariant_of-self c = sound_after (parts_of c.self.inside) _ 0 (command.Release 
 
 pub returns-clause-step : goal.returns-clause-step
 returns-clause-step c =
-  λ place. subst (λ p. Does p place (command.Release c.args.channel c.args.chunk) Released (record (released_parts (parts_of c.self.inside) c.in-Some.found.index c.in-Some.found.entry) { completions = c.push.new.self })) c.self.view_is (released_by (parts_of c.self.inside) c.args.channel c.args.chunk c.in-Some.found c.as_value.result c.push.new.self (let t : c.args.channel < c.self.inside.settings.channels = omega arith in t) (subst (λ es. IsFound es c.args.chunk c.in-Some.found) c.deref.ensures.value c.in-Some.ensures.found) (c.in_default-release_refusal.ensures.rule ∙ ap (λ p. release_rule p c.in-Some.found.entry) (sym c.self.view_is)) (c.as_value.ensures ∙ c.new-pointer.ensures ∙ ap (λ n. pointer_offset (c.in-Some.found.entry.bucket * n) 0) c.bucket_size.ensures.value) (release_joins c.push.result c.self.inside.completions c.push.new.self c.as_value.result (parts_of c.self.inside) c.in-Some.found.entry (c.in_default-release_refusal.ensures.rule ∙ ap (λ p. release_rule p c.in-Some.found.entry) (sym c.self.view_is)) c.push.ensures.room c.push.ensures.joined) place)
+    λ place. subst (λ p. Does p place (command.Release c.args.channel c.args.chunk) Released (record (released_parts (parts_of c.self.inside) c.in-Some.found.index c.in-Some.found.entry) { completions = c.push.new.self })) c.self.view_is (released_by (parts_of c.self.inside) c.args.channel c.args.chunk c.in-Some.found c.as_value.result c.push.new.self (let t : c.args.channel < c.self.inside.settings.channels = omega arith in t) (subst (λ es. IsFound es c.args.chunk c.in-Some.found) c.deref.ensures.value c.in-Some.ensures.found) (c.in_default-release_refusal.ensures.rule ∙ ap (λ p. release_rule p c.in-Some.found.entry) (sym c.self.view_is)) (c.as_value.ensures ∙ c.new-pointer.ensures ∙ ap (λ n. pointer_offset (c.in-Some.found.entry.bucket * n) 0) c.bucket_size.ensures.value) (release_joins c.push.result c.self.inside.completions c.push.new.self c.as_value.result (parts_of c.self.inside) c.in-Some.found.entry (c.in_default-release_refusal.ensures.rule ∙ ap (λ p. release_rule p c.in-Some.found.entry) (sym c.self.view_is)) c.push.ensures.room c.push.ensures.joined) place)

@@ -1,24 +1,23 @@
-use Rattle.std.proofs.Common.{◌≡◌, ◌+◌, ◌*◌, ◌/◌, ◌<◌, ◌≤◌, ℕ, Bool, true, false, Option, Some, None, length, take, drop, sym, ap, ◌∙◌, subst, arith}
+use Rattle.std.proofs.Common.{◌*◌, None, sym, ap, ◌∙◌, subst, arith}
 use Rattle.std.proofs.lemmas.Option.{slice_get_within}
-use Rattle.cal_alloc.specs.PointerOffset.{pointer_offset, offset_of}
+use Rattle.cal_alloc.specs.PointerOffset.{pointer_offset}
 use Rattle.cal_transport.specs.declared.command.Command.TheVariants as command
-use Rattle.cal_transport.specs.declared.reply.Reply.TheVariants.{Sent, Received, Shown, Released, Reclaimed, Discarded}
-use Rattle.cal_transport.specs.Entry.{IsUnnamed, IsFound, LeadsToEntry}
-use Rattle.cal_transport.specs.Parts.{Parts, Does}
+use Rattle.cal_transport.specs.declared.reply.Reply.TheVariants.{Sent}
+use Rattle.cal_transport.specs.Entry.{IsUnnamed, IsFound}
+use Rattle.cal_transport.specs.Parts.{Does}
 use Rattle.cal_transport.specs.PartsOf.{parts_of}
-use Rattle.cal_transport.specs.Rules.{send_rule, receive_rule, read_rule, release_rule}
+use Rattle.cal_transport.specs.Rules.{send_rule}
 use Rattle.cal_transport.proofs.Steps.{entry_within, sound_after}
-use Rattle.cal_transport.proofs.Changing.{le_when}
 use Rattle.cal_transport.proofs.Sending.{sent_parts, send_unnamed, send_refused, sent_by}
 use Rattle.cal_transport.proofs.transport.Transport.send.Goals as goal
 
 pub returns-in_default-clause-step : goal.returns-in_default-clause-step
 returns-in_default-clause-step c =
-  send_unnamed c.args.self.now c.args.channel c.args.chunk (subst (λ es. IsUnnamed es c.args.chunk) (c.deref.ensures.value ∙ ap (λ p. p.entries) c.self.view_is) c.in_default.ensures.found)
+    send_unnamed c.args.self.now c.args.channel c.args.chunk (subst (λ es. IsUnnamed es c.args.chunk) (c.deref.ensures.value ∙ ap (λ p. p.entries) c.self.view_is) c.in_default.ensures.found)
 
 pub returns-in-Some-send_refusal-clause-step : goal.returns-in-Some-send_refusal-clause-step
 returns-in-Some-send_refusal-clause-step c =
-  send_refused c.args.self.now c.args.channel c.args.chunk c.in-Some.found c.in-Some-send_refusal.refusal
+    send_refused c.args.self.now c.args.channel c.args.chunk c.in-Some.found c.in-Some-send_refusal.refusal
     (subst (λ es. IsFound es c.args.chunk c.in-Some.found) (c.deref.ensures.value ∙ ap (λ p. p.entries) c.self.view_is) c.in-Some.ensures.found)
     (sym c.in-Some-send_refusal.ensures.rule)
 
@@ -42,4 +41,4 @@ invariant_of-self c = sound_after (parts_of c.self.inside) _ 0 (command.Send c.a
 
 pub returns-clause-step : goal.returns-clause-step
 returns-clause-step c =
-  λ place. subst (λ p. Does p place (command.Send c.args.channel c.args.chunk) (Sent None) (record (sent_parts (parts_of c.self.inside) c.in-Some.found.index c.in-Some.found.entry) { submissions = c.push.new.self; used = c.insert.new.self })) c.self.view_is (sent_by (parts_of c.self.inside) c.args.channel c.args.chunk c.in-Some.found c.as_value.result c.push.new.self c.insert.new.self (subst (λ es. IsFound es c.args.chunk c.in-Some.found) c.deref.ensures.value c.in-Some.ensures.found) (c.in_default-send_refusal.ensures.rule ∙ ap (λ p. send_rule p c.args.channel c.in-Some.found.entry) (sym c.self.view_is)) (c.as_value.ensures ∙ c.new-pointer.ensures ∙ ap (λ n. pointer_offset (c.in-Some.found.entry.bucket * n) 0) c.bucket_size.ensures.value) c.push.ensures.joined c.insert.ensures.now_present place)
+    λ place. subst (λ p. Does p place (command.Send c.args.channel c.args.chunk) (Sent None) (record (sent_parts (parts_of c.self.inside) c.in-Some.found.index c.in-Some.found.entry) { submissions = c.push.new.self; used = c.insert.new.self })) c.self.view_is (sent_by (parts_of c.self.inside) c.args.channel c.args.chunk c.in-Some.found c.as_value.result c.push.new.self c.insert.new.self (subst (λ es. IsFound es c.args.chunk c.in-Some.found) c.deref.ensures.value c.in-Some.ensures.found) (c.in_default-send_refusal.ensures.rule ∙ ap (λ p. send_rule p c.args.channel c.in-Some.found.entry) (sym c.self.view_is)) (c.as_value.ensures ∙ c.new-pointer.ensures ∙ ap (λ n. pointer_offset (c.in-Some.found.entry.bucket * n) 0) c.bucket_size.ensures.value) c.push.ensures.joined c.insert.ensures.now_present place)

@@ -1,7 +1,3 @@
-use Rattle.std.proofs.Common.{◌≡◌, ◌+◌, ◌≤◌, ◌++◌, ℕ}
-use Rattle.std.specs.List.{flat_map}
-use Rattle.cal_transport.specs.Ledger.{numbers_below}
-use Rattle.cal_transport.specs.Transit.{transit_reply}
 use Rattle.cal_transport.proofs.Transits.{Listed}
 use Rattle.cal_transport.proofs.transport.transit.append_transit.Given as goal
 
