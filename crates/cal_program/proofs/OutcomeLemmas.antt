@@ -10,7 +10,8 @@ use Rattle.cal_transport.specs.declared.reply.Reply.{Reply}
 use Rattle.cal_transport.specs.Settings.{create_cause}
 use Rattle.cal_transport.specs.Ledger.{Ledger, first_ledger}
 use Rattle.cal_transport.specs.Step.{after}
-use Rattle.cal_transport.specs.Run.{StopsAt, StopsUnbuilt, IsCount, is_built}
+use Rattle.cal_transport.specs.Built.{is_built}
+use Rattle.cal_transport.specs.Run.{StopsAt, StopsUnbuilt, IsCount}
 use Rattle.cal_program.specs.declared.status.Status.{Status}
 use Rattle.cal_program.specs.declared.status.Status.TheVariants.{Done, BadScript, NotCreated, ReadFault, WriteFault, NoMemory, Usage, TooLong, NotBuilt}
 use Rattle.cal_program.specs.Script.{Reading, script_of}

@@ -7,7 +7,8 @@ use Rattle.cal_transport.specs.declared.command.Command.{Command}
 use Rattle.cal_transport.specs.declared.command.Command.TheVariants as command
 use Rattle.cal_transport.specs.declared.reply.Reply.{Reply}
 use Rattle.cal_transport.specs.Settings.{create_cause}
-use Rattle.cal_transport.specs.Run.{IsRun, StopsForMemory, StopsUnbuilt, is_built}
+use Rattle.cal_transport.specs.Built.{is_built}
+use Rattle.cal_transport.specs.Run.{IsRun, StopsForMemory, StopsUnbuilt}
 use Rattle.cal_program.specs.declared.status.Status.{Status}
 use Rattle.cal_program.specs.declared.status.Status.TheVariants.{Done, BadScript, NotCreated, ReadFault, WriteFault, NoMemory, Usage, TooLong, NotBuilt}
 use Rattle.cal_program.specs.Script.{Reading, script_of}
