@@ -4,6 +4,8 @@ ghost use Rattle.std.specs.Prelude.{◌≡◌, ◌<◌, ◌≤◌, length, take,
 ghost use Rattle.std.specs.Io.KnownBytes.{IsAtEnd};
 ghost use Rattle.cal_program.specs.Streams.{Takes, TakesNothing};
 
+mod worked_examples;
+
 use crate::memory::{MemorySink, MemorySource};
 use crate::read::SCRIPT_LIMIT;
 use crate::run_program::run_program;
@@ -25,8 +27,40 @@ const ONE_CHUNK: &[u8] =
 const ONE_CHUNK_LINES: &[u8] =
     b"loaned 1 0:0\nwritten\nsent\nreceived 1 0:0\nbytes 7b00\ntransit 0 1 0:0\n";
 
-/// After how many bytes of it a line is whole, with and without its line feed. Half of the bytes to write are as good.
-const WHOLE: [usize; 12] = [36, 37, 45, 46, 58, 60, 61, 69, 70, 79, 80, 92];
+/// Each command that is served, in a script whose chunk comes back.
+const EACH_COMMAND: &[u8] =
+    b"transport 8 8 1 static 1 1 off 1 1 1\nloan 8 8\nwrite 1 0 7b00\nsend 0 1\nreceive 0\nread 0 1 0 2\nrelease 0 1\nreclaim 0\ndiscard 1\n";
+
+/// The replies to it, if it is whole.
+const EACH_REPLY: &[u8] =
+    b"loaned 1 0:0\nwritten\nsent\nreceived 1 0:0\nbytes 7b00\nreleased\nreclaimed 1 0:0\ndiscarded\n";
+
+/// The line that follows them while the chunk is in transit.
+const IN_TRANSIT: &[u8] = b"transit 0 1 0:0\n";
+
+/// The cuts that leave whole lines: how many bytes of the script are left, and how many of the replies are due. A line
+/// is whole with and without its line feed, and half of the bytes to write are as good.
+const WHOLE: [(usize, usize); 19] = [
+    (36, 0),
+    (37, 0),
+    (45, 13),
+    (46, 13),
+    (58, 21),
+    (60, 21),
+    (61, 21),
+    (69, 26),
+    (70, 26),
+    (79, 41),
+    (80, 41),
+    (92, 52),
+    (93, 52),
+    (104, 61),
+    (105, 61),
+    (114, 77),
+    (115, 77),
+    (124, 87),
+    (125, 87),
+];
 
 /// A source that gives one byte a call.
 #[derive(Drop)]
@@ -80,22 +114,28 @@ fn bad_lines(rt: HostRuntime) -> Result<(), Fail> {
     Ok(())
 }
 
+/// Asserts that a script that is cut there, in this line of it, has its due outcome.
+fn assert_cut(rt: &(impl Abort + AllocGlobal), cut: usize, line: usize) -> Result<(), AllocError> {
+    let script = &EACH_COMMAND[..cut];
+    for (bytes, replies) in WHOLE {
+        if bytes == cut {
+            let mut text = Vec::from_slice(rt.alloc(), &EACH_REPLY[..replies])?;
+            if (26..=61).contains(&replies) {
+                text.extend_from_slice(IN_TRANSIT)?;
+            }
+            return assert_run(rt, script, Status::Done, text.as_slice());
+        }
+    }
+    let text = format!(in rt.alloc(); "line {line}\n")?;
+    assert_run(rt, script, Status::BadScript { line }, text.as_bytes())
+}
+
 #[test]
 fn scripts_that_are_cut(rt: HostRuntime) -> Result<(), Fail> {
-    let words = words_of(rt.alloc(), "run")?;
     let mut line = 1;
-    for cut in 0..ONE_CHUNK.len() {
-        let mut source = MemorySource::new(&ONE_CHUNK[..cut], &[]);
-        let mut sink = MemorySink::new(rt.alloc(), &[]);
-        let outcome = run_program(rt.alloc(), words.as_slice(), &mut source, &mut sink);
-        let is_whole = WHOLE.contains(&cut);
-        let due = if is_whole {
-            Status::Done
-        } else {
-            Status::BadScript { line }
-        };
-        assert_eq!(rt; outcome.status, due, "after {cut} bytes");
-        if ONE_CHUNK[cut] == b'\n' && line < 6 {
+    for cut in 0..=EACH_COMMAND.len() {
+        assert_cut(&rt, cut, line)?;
+        if cut < EACH_COMMAND.len() && EACH_COMMAND[cut] == b'\n' {
             line += 1;
         }
     }

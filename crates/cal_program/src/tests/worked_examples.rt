@@ -1,0 +1,94 @@
+//! Worked examples: whole scripts of one-segment transports, with the lines that they owe. `;` stands for a line's end.
+//! A due line that ends in `*` holds for every place, since a loan may take any free bucket.
+
+use crate::memory::{MemorySink, MemorySource};
+use crate::run_program::run_program;
+use crate::status::Status;
+use crate::tests::words_of;
+use std::alloc::AllocGlobal;
+use std::process::Abort;
+use std::test::Fail;
+
+/// Whether a line is as it is due.
+fn is_due(line: &str, due: &str) -> bool {
+    match due.strip_suffix('*') {
+        Some(start) => line.starts_with(start),
+        None => line == due,
+    }
+}
+
+/// Runs a script, and asserts that it ends well and that each line is as it is due.
+fn assert_lines(rt: &(impl Abort + AllocGlobal), script: &str, due: &str) -> Result<(), Fail> {
+    let mut bytes = Vec::new(rt.alloc());
+    for byte in script.bytes() {
+        bytes.push(if byte == b';' { b'\n' } else { byte })?;
+    }
+    let words = words_of(rt.alloc(), "run")?;
+    let mut source = MemorySource::new(bytes.as_slice(), &[]);
+    let mut sink = MemorySink::new(rt.alloc(), &[]);
+    let outcome = run_program(rt.alloc(), words.as_slice(), &mut source, &mut sink);
+    assert_eq!(rt; outcome.status, Status::Done);
+    let text = str::from_utf8(sink.as_slice())
+        .ok()
+        .ok_or("the text is UTF-8")?;
+    assert_eq!(rt; text.lines().count(), due.split(';').count());
+    for (line, due) in text.lines().zip(due.split(';')) {
+        assert!(rt; is_due(line, due), "{line} in place of {due}");
+    }
+    Ok(())
+}
+
+#[test]
+fn loans_that_the_pool_refuses(rt: HostRuntime) -> Result<(), Fail> {
+    assert_lines(
+        &rt,
+        "transport 8 8 1 static 1 1 off 1 1 1;loan 16 16;loan 16 8;loan 8 8;loan 8 8;loan 4 3",
+        "refused ExceedsMaxSupportedAlignment;refused SizeTooLarge;loaned 3 0:0;refused OutOfMemory;refused BadLayout",
+    )
+}
+
+#[test]
+fn a_full_buffer_and_the_borrow_limit(rt: HostRuntime) -> Result<(), Fail> {
+    assert_lines(
+        &rt,
+        "transport 8 8 2 static 1 1 off 2 1 1;loan 8 8;loan 8 8;send 0 1;send 0 2;receive 0;receive 0",
+        "loaned 1 0:*;loaned 2 0:*;sent;refused ReceiveBufferFull;received 1 0:*;\
+         refused ReceiveWouldExceedMaxBorrowValue;transit 0 1 0:*",
+    )
+}
+
+#[test]
+fn a_completion_queue_that_just_holds_all(rt: HostRuntime) -> Result<(), Fail> {
+    assert_lines(
+        &rt,
+        "transport 8 8 3 static 1 1 off 3 1 1;loan 1 1;loan 1 1;loan 1 1;send 0 1;receive 0;reclaim 0;send 0 2;\
+         reclaim 0;release 0 1;receive 0;send 0 3;release 0 2;receive 0;release 0 3",
+        "loaned 1 0:*;loaned 2 0:*;loaned 3 0:*;sent;received 1 0:*;reclaimed none;sent;reclaimed none;released;\
+         received 2 0:*;sent;released;received 3 0:*;released;transit 0 *;transit 0 *;transit 0 *",
+    )
+}
+
+#[test]
+fn a_completion_queue_that_is_full(rt: HostRuntime) -> Result<(), Fail> {
+    assert_lines(
+        &rt,
+        "transport 8 8 4 static 1 1 off 4 1 1;loan 8 8;loan 8 8;loan 8 8;loan 8 8;send 0 1;receive 0;release 0 1;\
+         send 0 2;receive 0;release 0 2;send 0 3;receive 0;release 0 3;send 0 4;receive 0;release 0 4;reclaim 0;\
+         release 0 4",
+        "loaned 1 0:*;loaned 2 0:*;loaned 3 0:*;loaned 4 0:*;sent;received 1 0:*;released;sent;received 2 0:*;released;\
+         sent;received 3 0:*;released;sent;received 4 0:*;refused RetrieveBufferFull;reclaimed 1 0:*;released;\
+         transit 0 *;transit 0 *;transit 0 *",
+    )
+}
+
+#[test]
+fn each_cause_in_its_order(rt: HostRuntime) -> Result<(), Fail> {
+    assert_lines(
+        &rt,
+        "transport 8 8 1 static 2 2 off 1 1 1;loan 0 1;send 0 1;send 0 1;write 1 0 01;read 0 1 0 1;receive 0;\
+         release 0 1;release 0 1;reclaim 0;send 0 1;send 1 1;send 0 5;receive 9;discard 1;discard 1",
+        "loaned 1 0:0;sent;refused AlreadyInTransit;refused WriteAfterSend;refused NotBorrowed;received 1 0:0;released;\
+         refused NotBorrowed;reclaimed 1 0:0;sent;refused OutsideConnection;refused NotLoaned;refused OutsideConnection;\
+         discarded;refused NotLoaned;transit 0 1 0:0",
+    )
+}
