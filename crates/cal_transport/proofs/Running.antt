@@ -1,7 +1,7 @@
 -- Whole runs: what each answer keeps, and how steps make a run.
-use Rattle.std.proofs.Common.{ℕ, zero, suc, ◌+◌, ◌-◌, ◌<◌, ◌≤◌, ◌≡◌, inl, inr, min, Bool, true, false, cond, List, [], ◌∷◌, ◌++◌, length, drop, map, Option, Some, None, refl, sym, ap, ◌∙◌, subst, arith, length-append}
+use Rattle.std.proofs.Common.{ℕ, zero, suc, ◌+◌, ◌-◌, ◌<◌, ◌≤◌, ◌≡◌, ◌≢◌, inl, inr, min, Bool, true, false, cond, List, [], ◌∷◌, ◌++◌, length, drop, map, Option, Some, None, refl, sym, ap, ◌∙◌, subst, arith, length-append}
 use Rattle.std.specs.List.{slice_get}
-use Rattle.std.proofs.lemmas.Option.{same_Some, none-some}
+use Rattle.std.proofs.lemmas.Option.{same_Some, none-some, slice_get_within}
 use Rattle.std.proofs.lemmas.Bool.Decides.{eqb_tells}
 use Rattle.cal_transport.specs.declared.command.Command.{Command}
 use Rattle.cal_transport.specs.declared.command.Command.TheVariants as command
@@ -17,7 +17,7 @@ use Rattle.cal_transport.specs.Step.{Answers, AnswersBy, after, after_by, change
 use Rattle.std.specs.Bool.{MatchBool}
 use Rattle.cal_transport.specs.Replies.{ReplyList}
 use Rattle.cal_transport.specs.Built.{is_built}
-use Rattle.cal_transport.specs.Run.{AreSteps, after_steps, AreStepsAndTransit, StopsAt, transit_list, IsRun, TakesMemory, StopsForMemory, StopsUnbuilt, IsCount}
+use Rattle.cal_transport.specs.Run.{AreSteps, after_steps, AreStepsAndTransit, StopsAt, transit_list, IsRun, TakesMemory, StopsForMemory, StopsUnbuilt, IsCount, HasNoCount}
 use Rattle.std.proofs.lemmas.List.{length-take}
 use Rattle.cal_transport.specs.Serve.{RanOut}
 use Rattle.cal_transport.specs.Rules.{DoesAnywhere}
@@ -240,6 +240,7 @@ pub record IsRunning (settings : Settings) (commands : List Command) (p : Parts)
   pub turns : length replies.items ≡ index
   pub entries_room : length commands ≤ p.room + index
   pub spare : room ≤ replies.spare + index
+  pub no_count : (i : ℕ) → i < index → slice_get commands i ≢ Some command.Count
 
 -- the names so far are below the next place
 pub running_below : (settings : Settings) (commands : List Command) (p : Parts) (replies : ReplyList) (index room : ℕ) →
@@ -253,8 +254,8 @@ running_below settings commands p replies index room r =
 pub runs_on : (settings : Settings) (commands : List Command) (old new : Parts) (before after' : ReplyList) (index room : ℕ) (asked : Command) (reply : Reply) →
     IsRunning settings commands old before index room → slice_get commands index ≡ Some asked → Does old (index + 1) asked reply new →
     old.room ≤ new.room + 1 → after'.items ≡ before.items ++ reply ∷ [] → after'.spare ≡ before.spare - 1 → 0 < before.spare →
-    IsRunning settings commands new after' (index + 1) room
-runs_on settings commands old new before after' index room asked reply r next does kept pushed left some =
+    asked ≢ command.Count → IsRunning settings commands new after' (index + 1) room
+runs_on settings commands old new before after' index room asked reply r next does kept pushed left some uncounted =
     let l = after_steps (first_ledger settings) 1 commands before.items in
     let next' : slice_get commands (length before.items) ≡ Some asked = ap (slice_get commands) r.turns ∙ next in
     let place : index + 1 ≡ 1 + length before.items = (let t = r.turns in omega arith) in
@@ -269,6 +270,10 @@ runs_on settings commands old new before after' index room asked reply r next do
       turns = omega arith;
       entries_room = omega arith;
       spare = omega arith;
+      no_count = λ i small e. elim (eqb_tells i index) [
+        | inl last ↦ uncounted (same_Some asked command.Count (sym next ∙ ap (slice_get commands) (sym last.1) ∙ e))
+        | inr other ↦ r.no_count i (let apart = other.1 in omega arith) e
+      ];
     }
 
 -- how much the walk may list is known from the settings
@@ -286,6 +291,12 @@ ran settings commands p replies all index room r whole listed =
     let l = after_steps (first_ledger settings) 1 commands replies.items in
     subst (IsRun settings commands) (sym (listed l r.stands))
     (steps_transit (first_ledger settings) 1 commands replies.items r.steps (r.turns ∙ whole))
+
+-- it met no command that counts
+pub ran_uncounted : (settings : Settings) (commands : List Command) (p : Parts) (replies : ReplyList) (index room : ℕ) →
+    IsRunning settings commands p replies index room → index ≡ length commands → HasNoCount commands
+ran_uncounted settings commands p replies index room r whole place e =
+    r.no_count place (let below = slice_get_within commands place command.Count e in omega arith) e
 
 -- a run that ran out of memory at a command
 pub ran_out : (settings : Settings) (commands : List Command) (p : Parts) (replies : ReplyList) (index room : ℕ) (asked : Command) →

@@ -1,5 +1,6 @@
 -- Runs of the ledger: steps for a list of commands, and the chunks that are in transit after them.
-use Rattle.std.specs.Prelude.{ℕ, ◌+◌, ◌<◌, ◌≡◌, ◌&&◌, ◌==◌, IsTrue, MatchBool, length, filter, map, flat_map, List, [], ◌∷◌, Some, None}
+use Rattle.std.specs.Prelude.{ℕ, ◌+◌, ◌<◌, ◌≡◌, ◌≢◌, ◌&&◌, ◌==◌, IsTrue, MatchBool, length, filter, map, flat_map, List, [], ◌∷◌, Some, None}
+use Rattle.std.specs.List.{slice_get}
 use Rattle.cal_transport.specs.declared.settings.Settings.{Settings}
 use Rattle.cal_transport.specs.declared.command.Command.{Command}
 use Rattle.cal_transport.specs.declared.command.Command.TheVariants as command
@@ -80,6 +81,10 @@ StopsForMemory settings commands (reply ∷ replies) =
 
 abbrev pub IsCount : Ledger → Command → Type 0
 IsCount l asked = asked ≡ command.Count
+
+-- no command is one that counts
+abbrev pub HasNoCount : List Command → Type 0
+HasNoCount commands = (place : ℕ) → slice_get commands place ≢ Some command.Count
 
 -- the settings aren't built, or the next command isn't
 abbrev pub StopsUnbuilt : Settings → List Command → List Reply → Type 0

@@ -32,8 +32,8 @@ impl Replies {
         })
     }
 
-    /// No reply, and no room.
-    pub(crate) fn empty(alloc: Global) -> Replies
+    /// No reply, and no room. It takes no memory.
+    pub fn empty(alloc: Global) -> Replies
         ensures empty { result.items ≡ [] }
     {
         Replies {

@@ -1,13 +1,13 @@
 //! A whole run: a transport is made, each command is served in turn, and what is in transit then is told.
 
-ghost use Rattle.std.specs.Prelude.{◌≡◌, ◌+◌, ◌<◌, ◌≤◌, OnOk, IfOk, IfErr, None, Some, Err, IsTrue};
+ghost use Rattle.std.specs.Prelude.{◌≡◌, ◌≢◌, ◌+◌, ◌<◌, ◌≤◌, OnOk, IfOk, IfErr, None, Some, Err, IsTrue};
 ghost use Rattle.cal_transport.specs.Settings.{create_cause};
 ghost use Rattle.cal_transport.specs.Built.{is_built};
 ghost use Rattle.cal_transport.specs.Entry.{AreBelow};
 ghost use Rattle.cal_transport.specs.Rules.{DoesAnywhere};
 ghost use Rattle.cal_transport.specs.Serve.{NotServed};
 ghost use Rattle.cal_transport.specs.Parts.{Does};
-ghost use Rattle.cal_transport.specs.Run.{IsRun, HasError};
+ghost use Rattle.cal_transport.specs.Run.{IsRun, HasError, HasNoCount};
 
 use crate::bytes::Bytes;
 use crate::command::Command;
@@ -48,6 +48,7 @@ pub fn run_transport(
     ensures run { IfOk result (λ replies. IsRun settings.now commands.now replies.items) }
     ensures made { OnOk result (create_cause settings.now ≡ None) }
     ensures built { OnOk result (IsTrue (is_built settings.now)) }
+    ensures served { OnOk result (HasNoCount commands.now) }
     ensures create { (cause : CreateCause) → create_cause settings.now ≡ Some cause → result ≡ Err (RunError.Create cause) }
     ensures error { IfErr result (HasError settings.now commands.now) }
 {
@@ -89,6 +90,7 @@ impl Transport {
         requires room { 0 < self.old.room }
         ensures served { IfOk result (λ reply. Does self.old place command.now reply self.new) }
         ensures error { IfErr result (NotServed self.old command.now) }
+        ensures counts { OnOk result (command.now ≢ Command.Count) }
         ensures room { self.old.room ≤ self.new.room + 1 }
     {
         match command {

@@ -3,7 +3,7 @@ use Rattle.std.specs.List.{slice_get}
 use Rattle.std.proofs.lemmas.Option.{slice_get_read}
 use Rattle.cal_transport.specs.Built.{is_built}
 use Rattle.cal_transport.specs.Serve.{NotServed}
-use Rattle.cal_transport.proofs.Running.{running_below, runs_on, most_is, ran, ran_out, ran_unbuilt}
+use Rattle.cal_transport.proofs.Running.{running_below, runs_on, most_is, ran, ran_uncounted, ran_out, ran_unbuilt}
 use Rattle.cal_transport.proofs.run.run_transport.Goals as goal
 
 pub serve-requires-clause-below : goal.serve-requires-clause-below
@@ -41,7 +41,7 @@ loop-index-preserved c =
     let below = c.loop-index-test.true in
     runs_on c.args.settings.now c.args.commands.now c.loop-index.transport c.serve.new.self c.loop-index.replies c.push.new.self c.loop-index.index
     (length c.args.commands.now + c.most_in_transit.result) c.index-commands-index.result c.in-Ok-serve.reply c.loop-index.invariant next
-    c.in-Ok-serve.ensures.served c.in-Ok-serve.ensures.room c.push.ensures.items c.push.ensures.room (omega arith)
+    c.in-Ok-serve.ensures.served c.in-Ok-serve.ensures.room c.push.ensures.items c.push.ensures.room (omega arith) c.in-Ok-serve.ensures.counts
 
 pub transit-requires : goal.transit-requires
 transit-requires c = record {
@@ -55,3 +55,8 @@ pub returns-clause-run : goal.returns-clause-run
 returns-clause-run c =
     ran c.args.settings.now c.args.commands.now c.loop-index.transport c.loop-index.replies c.transit.new.into.items c.loop-index.index (length c.args.commands.now + c.most_in_transit.result)
     c.loop-index.invariant (omega arith) c.transit.ensures.listed
+
+pub returns-clause-served : goal.returns-clause-served
+returns-clause-served c =
+    ran_uncounted c.args.settings.now c.args.commands.now c.loop-index.transport c.loop-index.replies c.loop-index.index (length c.args.commands.now + c.most_in_transit.result)
+    c.loop-index.invariant (omega arith)
