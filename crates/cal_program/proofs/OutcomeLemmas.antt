@@ -1,5 +1,5 @@
 -- From what a run of the program owes to when each status comes.
-use Rattle.std.proofs.Common.{◌≡◌, ℕ, ◌+◌, ◌<◌, ◌≤◌, ◌⊎◌, inl, inr, Bool, true, false, ◌||◌, List, [], ◌∷◌, ◌++◌, length, Option, Some, None, Result, Ok, refl, sym, ap, subst, ◌∙◌, arith}
+use Rattle.std.proofs.Common.{◌≡◌, ℕ, suc, ◌+◌, ◌<◌, ◌≤◌, ◌⊎◌, inl, inr, Bool, true, false, ◌||◌, List, [], ◌∷◌, ◌++◌, length, Option, Some, None, Result, Ok, refl, sym, ap, subst, ◌∙◌, arith}
 use Rattle.std.specs.Prelude.{IsTrue, IfSome, MatchBool}
 use Rattle.std.specs.List.{list_any}
 use Rattle.std.specs.Io.KnownBytes.{Consumes, IsAtEnd}
@@ -11,14 +11,15 @@ use Rattle.cal_transport.specs.Settings.{create_cause}
 use Rattle.cal_transport.specs.Ledger.{Ledger, first_ledger}
 use Rattle.cal_transport.specs.Step.{after}
 use Rattle.cal_transport.specs.Built.{is_built}
-use Rattle.cal_transport.specs.Run.{StopsAt, StopsUnbuilt, IsCount}
+use Rattle.cal_transport.specs.declared.command.Command.TheVariants as command
+use Rattle.cal_transport.specs.Run.{StopsAt, StopsUnbuilt, IsCount, HasNoCount}
 use Rattle.cal_program.specs.declared.status.Status.{Status}
 use Rattle.cal_program.specs.declared.status.Status.TheVariants.{Done, BadScript, NotCreated, ReadFault, WriteFault, NoMemory, Usage, TooLong, NotBuilt}
 use Rattle.cal_program.specs.Script.{Reading, script_of}
 use Rattle.cal_program.specs.ReplyText.{reply_lines}
 use Rattle.cal_program.specs.Streams.{SourceState, SinkState, Rose, PutsAll}
 use Rattle.cal_program.specs.ReadAll.{script_limit, ReadsAll}
-use Rattle.cal_program.specs.Outcome.{asks_for_run, status_text, script_status, due_status, IsAnswer, IsVerdict, IsDue, IsWritten, EndsDue, is_unbuilt, has_unbuilt, IsRight, IsServed, AreRepliesTo}
+use Rattle.cal_program.specs.Outcome.{asks_for_run, status_text, script_status, due_status, IsAnswer, IsVerdict, IsDue, IsWritten, EndsDue, is_unbuilt, IsRight, AreRepliesTo}
 
 -- ---- the bytes that were read are those that the source told
 
@@ -50,7 +51,7 @@ due_status-long words bytes asks long = rw (asks, lt-ltb script_limit (length by
 due_status-usage : (words : List (List ℕ)) (bytes : List ℕ) → asks_for_run words ≡ false → due_status words bytes ≡ Usage
 due_status-usage words bytes none = rw none refl
 
--- ---- a script that stops unbuilt
+-- ---- which scripts are served
 
 any-first : (command : Command) (commands : List Command) → is_unbuilt command ≡ true → list_any is_unbuilt (command ∷ commands) ≡ true
 any-first command commands e = rw e refl
@@ -64,37 +65,50 @@ stops-unbuilt l place (asked ∷ commands) [] h = any-first asked commands (ap i
 stops-unbuilt l place (asked ∷ commands) (reply ∷ replies) h =
     any-later asked commands (stops-unbuilt (after l place asked reply) (place + 1) commands replies h.1)
 
-stops-status : (script : Reading) (replies : List Reply) (built : Bool) → create_cause script.settings ≡ None → is_built script.settings ≡ built → StopsUnbuilt script.settings script.commands replies → (NotBuilt ≡ script_status (Ok script)) ⊎ ((script_status (Ok script) ≡ Done) × (list_any is_unbuilt script.commands ≡ true))
-stops-status script replies false created built h = inl (rw (created, built) refl)
+no-count : (commands : List Command) → HasNoCount commands → list_any is_unbuilt commands ≡ false
+no-count [] h = refl
+no-count (command.Loan size alignment ∷ commands) h = no-count commands (λ place. h (suc place))
+no-count (command.Write chunk at bytes ∷ commands) h = no-count commands (λ place. h (suc place))
+no-count (command.Send channel chunk ∷ commands) h = no-count commands (λ place. h (suc place))
+no-count (command.Receive channel ∷ commands) h = no-count commands (λ place. h (suc place))
+no-count (command.Read channel chunk at len ∷ commands) h = no-count commands (λ place. h (suc place))
+no-count (command.Release channel chunk ∷ commands) h = no-count commands (λ place. h (suc place))
+no-count (command.Reclaim channel ∷ commands) h = no-count commands (λ place. h (suc place))
+no-count (command.Discard chunk ∷ commands) h = no-count commands (λ place. h (suc place))
+no-count (command.Count ∷ commands) h = absurd (h 0 refl)
+
+done-status : (script : Reading) → create_cause script.settings ≡ None → is_built script.settings ≡ true → HasNoCount script.commands → Done ≡ script_status (Ok script)
+done-status script created built h = rw (created, built, no-count script.commands h) refl
+
+stops-status : (script : Reading) (replies : List Reply) (built : Bool) → create_cause script.settings ≡ None → is_built script.settings ≡ built → StopsUnbuilt script.settings script.commands replies → NotBuilt ≡ script_status (Ok script)
+stops-status script replies false created built h = rw (created, built) refl
 stops-status script replies true created built h =
     let stops = subst (λ (b : Bool). MatchBool b (StopsAt IsCount (first_ledger script.settings) 1 script.commands replies) (replies ≡ [])) built h in
-    inr (rw (created, built) refl, stops-unbuilt (first_ledger script.settings) 1 script.commands replies stops)
+    rw (created, built, stops-unbuilt (first_ledger script.settings) 1 script.commands replies stops) refl
 
 -- ---- what was judged of bytes that were read
 
--- the status is that of the script, or it comes for want of memory or of what isn't built
+-- the status is that of the script, or it comes for want of memory
 abbrev IsFair : Status → Result Reading ℕ → Type 0
-IsFair status found =
-    (status ≡ script_status found) ⊎ ((status ≡ NoMemory) ⊎ ((status ≡ NotBuilt) × (script_status found ≡ Done) × (has_unbuilt found ≡ true)))
+IsFair status found = (status ≡ script_status found) ⊎ (status ≡ NoMemory)
 
 answer-fair : (script : Reading) (status : Status) (replies : List Reply) → IsAnswer script status replies → IsFair status (Ok script)
-answer-fair script Done replies h = inl (rw (h.0, h.1) refl)
+answer-fair script Done replies h = inl (done-status script h.0 h.1 h.2)
 answer-fair script (BadScript number) replies h = absurd h
 answer-fair script (NotCreated cause) replies h = inl (rw h.0 refl)
 answer-fair script ReadFault replies h = absurd h
 answer-fair script WriteFault replies h = absurd h
-answer-fair script NoMemory replies h = inr (inl refl)
+answer-fair script NoMemory replies h = inr refl
 answer-fair script Usage replies h = absurd h
 answer-fair script TooLong replies h = absurd h
-answer-fair script NotBuilt replies h =
-    elim (stops-status script h.1.0 (is_built script.settings) h.0 refl h.1.1) [ inl e ↦ inl e | inr p ↦ inr (inr (refl, p.0, p.1)) ]
+answer-fair script NotBuilt replies h = inl (stops-status script h.1.0 (is_built script.settings) h.0 refl h.1.1)
 
 script-fair : (bytes : List ℕ) (status : Status) (replies : List Reply) → ((script : Reading) × (script_of bytes ≡ Ok script) × IsAnswer script status replies) → IsFair status (script_of bytes)
 script-fair bytes status replies h = subst (λ (found : Result Reading ℕ). IsFair status found) (sym h.1) (answer-fair h.0 status replies h.2)
 
 verdict-fair : (bytes : List ℕ) (status : Status) (replies : List Reply) → IsVerdict bytes status replies → IsFair status (script_of bytes)
 verdict-fair bytes (BadScript number) replies h = inl (rw h.0 refl)
-verdict-fair bytes NoMemory replies h = inr (inl refl)
+verdict-fair bytes NoMemory replies h = inr refl
 verdict-fair bytes Done replies h = script-fair bytes Done replies h
 verdict-fair bytes (NotCreated cause) replies h = script-fair bytes (NotCreated cause) replies h
 verdict-fair bytes ReadFault replies h = script-fair bytes ReadFault replies h
@@ -109,10 +123,7 @@ excused-right : (words : List (List ℕ)) (bytes : List ℕ) (before now : Sourc
 excused-right words bytes before now sink_before sink_now status asks due fair =
     elim fair [
       | inl e ↦ inl (e ∙ sym due)
-      | inr other ↦ elim other [
-        | inl e ↦ subst (λ (s : Status). IsRight words bytes before now sink_before sink_now s) (sym e) (inr asks)
-        | inr p ↦ subst (λ (s : Status). IsRight words bytes before now sink_before sink_now s) (sym p.0) (inr (due ∙ p.1, p.2))
-      ]
+      | inr e ↦ subst (λ (s : Status). IsRight words bytes before now sink_before sink_now s) (sym e) (inr asks)
     ]
 
 -- a status that comes after all bytes were read
@@ -192,7 +203,7 @@ EndsDue-written words before now sink_before sink_now status replies h done =
 done-told : (words : List (List ℕ)) (before now : SourceState) (replies : List Reply) (xs : List ℕ) → before.left ≡ Some xs → IsDue words before now Done replies → AreRepliesTo xs replies
 done-told words before now replies xs tells h =
     let same : xs ≡ h.1.0 = whole-told before.left now.left xs h.1.0 tells h.1.1.taken.front h.1.1.ended in
-    subst (λ (bytes : List ℕ). AreRepliesTo bytes replies) (sym same) (h.1.2.0, h.1.2.1, h.1.2.2.2)
+    subst (λ (bytes : List ℕ). AreRepliesTo bytes replies) (sym same) (h.1.2.0, h.1.2.1, h.1.2.2.3)
 
 pub EndsDue-done : (words : List (List ℕ)) (before now : SourceState) (sink_before sink_now : SinkState) (status : Status) (replies : List Reply) → EndsDue words before now sink_before sink_now status replies → status ≡ Done → IfSome before.left (λ bytes. AreRepliesTo bytes replies)
 EndsDue-done words before now sink_before sink_now status replies h done =
@@ -201,8 +212,8 @@ EndsDue-done words before now sink_before sink_now status replies h done =
 
 -- ---- a valid script
 
-served-right : (words : List (List ℕ)) (bytes : List ℕ) (before now : SourceState) (sink_before sink_now : SinkState) (status : Status) → IsRight words bytes before now sink_before sink_now status → IsServed words bytes → ¬ Rose before.faults now.faults → ¬ Rose sink_before.faults sink_now.faults → (status ≡ Done) ⊎ (status ≡ NoMemory)
-served-right words bytes before now sink_before sink_now status (inl e) served clean_source clean_sink = inl (e ∙ served.0)
+served-right : (words : List (List ℕ)) (bytes : List ℕ) (before now : SourceState) (sink_before sink_now : SinkState) (status : Status) → IsRight words bytes before now sink_before sink_now status → due_status words bytes ≡ Done → ¬ Rose before.faults now.faults → ¬ Rose sink_before.faults sink_now.faults → (status ≡ Done) ⊎ (status ≡ NoMemory)
+served-right words bytes before now sink_before sink_now status (inl e) served clean_source clean_sink = inl (e ∙ served)
 served-right words bytes before now sink_before sink_now Done (inr h) served clean_source clean_sink = absurd h
 served-right words bytes before now sink_before sink_now (BadScript number) (inr h) served clean_source clean_sink = absurd h
 served-right words bytes before now sink_before sink_now (NotCreated cause) (inr h) served clean_source clean_sink = absurd h
@@ -211,10 +222,9 @@ served-right words bytes before now sink_before sink_now WriteFault (inr h) serv
 served-right words bytes before now sink_before sink_now NoMemory (inr h) served clean_source clean_sink = inr refl
 served-right words bytes before now sink_before sink_now Usage (inr h) served clean_source clean_sink = absurd h
 served-right words bytes before now sink_before sink_now TooLong (inr h) served clean_source clean_sink = absurd h
-served-right words bytes before now sink_before sink_now NotBuilt (inr h) served clean_source clean_sink =
-    absurd (let e : false ≡ true = sym served.1 ∙ h.1 in cc)
+served-right words bytes before now sink_before sink_now NotBuilt (inr h) served clean_source clean_sink = absurd h
 
-pub EndsDue-complete : (words : List (List ℕ)) (before now : SourceState) (sink_before sink_now : SinkState) (status : Status) (replies : List Reply) → EndsDue words before now sink_before sink_now status replies → IfSome before.left (λ bytes. IsServed words bytes → ¬ Rose before.faults now.faults → ¬ Rose sink_before.faults sink_now.faults → (status ≡ Done) ⊎ (status ≡ NoMemory))
+pub EndsDue-complete : (words : List (List ℕ)) (before now : SourceState) (sink_before sink_now : SinkState) (status : Status) (replies : List Reply) → EndsDue words before now sink_before sink_now status replies → IfSome before.left (λ bytes. due_status words bytes ≡ Done → ¬ Rose before.faults now.faults → ¬ Rose sink_before.faults sink_now.faults → (status ≡ Done) ⊎ (status ≡ NoMemory))
 EndsDue-complete words before now sink_before sink_now status replies h =
-    if-told before.left (λ bytes. IsServed words bytes → ¬ Rose before.faults now.faults → ¬ Rose sink_before.faults sink_now.faults → (status ≡ Done) ⊎ (status ≡ NoMemory))
+    if-told before.left (λ bytes. due_status words bytes ≡ Done → ¬ Rose before.faults now.faults → ¬ Rose sink_before.faults sink_now.faults → (status ≡ Done) ⊎ (status ≡ NoMemory))
     (λ xs tells. served-right words xs before now sink_before sink_now status (right-told words before now sink_before sink_now status replies xs tells h))

@@ -1,5 +1,5 @@
 -- What a run of the program owes: the status, the replies that it hands out, and the text that it writes.
-use Rattle.std.specs.Prelude.{ℕ, ◌≡◌, Bool, true, false, nat_lt, IsTrue, if◌then◌else◌, ◌⊎◌, List, [], ◌∷◌, ◌++◌, length, Option, Some, None, Result, Ok, Err, decimal, codes, bytes_eq}
+use Rattle.std.specs.Prelude.{ℕ, ◌≡◌, Bool, true, false, nat_lt, IsTrue, not, ◌&&◌, if◌then◌else◌, ◌⊎◌, List, [], ◌∷◌, ◌++◌, length, Option, Some, None, Result, Ok, Err, decimal, codes, bytes_eq}
 use Rattle.std.specs.List.{list_any}
 use Rattle.cal_transport.specs.declared.settings.CreateCause.{CreateCause}
 use Rattle.cal_transport.specs.declared.settings.CreateCause.TheVariants.{BadLayout, SizeOutOfRange, SizeIsZero, InternalError}
@@ -8,7 +8,7 @@ use Rattle.cal_transport.specs.declared.command.Command.TheVariants as command
 use Rattle.cal_transport.specs.declared.reply.Reply.{Reply}
 use Rattle.cal_transport.specs.Settings.{create_cause}
 use Rattle.cal_transport.specs.Built.{is_built}
-use Rattle.cal_transport.specs.Run.{IsRun, StopsForMemory, StopsUnbuilt}
+use Rattle.cal_transport.specs.Run.{IsRun, HasNoCount, StopsForMemory, StopsUnbuilt}
 use Rattle.cal_program.specs.declared.status.Status.{Status}
 use Rattle.cal_program.specs.declared.status.Status.TheVariants.{Done, BadScript, NotCreated, ReadFault, WriteFault, NoMemory, Usage, TooLong, NotBuilt}
 use Rattle.cal_program.specs.Script.{Reading, script_of}
@@ -58,15 +58,24 @@ status_text NotBuilt replies = line (codes "not built")
 
 -- ---- the status that words and bytes are due, where nothing fails
 
--- why no transport can be made with these settings; else whether such transports are built
+-- the command isn't built yet
+abbrev pub is_unbuilt : Command → Bool
+is_unbuilt command.Count = true
+is_unbuilt asked = false
+
+-- the settings and all commands are built
+abbrev pub is_served : Reading → Bool
+is_served script = is_built script.settings && not (list_any is_unbuilt script.commands)
+
+-- why no transport can be made with these settings; else whether the script is built
 abbrev pub settings_status : Option CreateCause → Bool → Status
-settings_status (Some cause) built = NotCreated cause
+settings_status (Some cause) served = NotCreated cause
 settings_status None true = Done
 settings_status None false = NotBuilt
 
 abbrev pub script_status : Result Reading ℕ → Status
 script_status (Err number) = BadScript number
-script_status (Ok script) = settings_status (create_cause script.settings) (is_built script.settings)
+script_status (Ok script) = settings_status (create_cause script.settings) (is_served script)
 
 abbrev pub due_status : List (List ℕ) → List ℕ → Status
 due_status words bytes =
@@ -77,7 +86,7 @@ due_status words bytes =
 -- The transport answered a script so.
 abbrev pub IsAnswer : Reading → Status → List Reply → Type 0
 IsAnswer script Done replies =
-    (create_cause script.settings ≡ None) × IsTrue (is_built script.settings) × IsRun script.settings script.commands replies
+    (create_cause script.settings ≡ None) × IsTrue (is_built script.settings) × HasNoCount script.commands × IsRun script.settings script.commands replies
 IsAnswer script (NotCreated cause) replies = (create_cause script.settings ≡ Some cause) × (replies ≡ [])
 IsAnswer script NotBuilt replies =
     (create_cause script.settings ≡ None) × ((answered : List Reply) × StopsUnbuilt script.settings script.commands answered) × (replies ≡ [])
@@ -113,35 +122,18 @@ EndsDue words source_before source_now sink_before sink_now status replies =
 
 -- ---- when each status comes, where the source tells its bytes
 
--- the command isn't built yet
-abbrev pub is_unbuilt : Command → Bool
-is_unbuilt command.Count = true
-is_unbuilt asked = false
-
--- a command of the script isn't built yet
-abbrev pub has_unbuilt : Result Reading ℕ → Bool
-has_unbuilt (Err number) = false
-has_unbuilt (Ok script) = list_any is_unbuilt script.commands
-
--- A status may come in place of the due one: a fault, where the count of faults rose; want of memory; and what isn't
--- built yet.
+-- A status may come in place of the due one: a fault, where the count of faults rose, and want of memory.
 abbrev pub IsExcused : List (List ℕ) → List ℕ → SourceState → SourceState → SinkState → SinkState → Status → Type 0
 IsExcused words bytes source_before source_now sink_before sink_now ReadFault =
     IsTrue (asks_for_run words) × Rose source_before.faults source_now.faults
 IsExcused words bytes source_before source_now sink_before sink_now WriteFault = Rose sink_before.faults sink_now.faults
 IsExcused words bytes source_before source_now sink_before sink_now NoMemory = IsTrue (asks_for_run words)
-IsExcused words bytes source_before source_now sink_before sink_now NotBuilt =
-    (due_status words bytes ≡ Done) × IsTrue (has_unbuilt (script_of bytes))
 IsExcused words bytes source_before source_now sink_before sink_now status = ⊥
 
 -- The status is the due one, or it is excused.
 abbrev pub IsRight : List (List ℕ) → List ℕ → SourceState → SourceState → SinkState → SinkState → Status → Type 0
 IsRight words bytes source_before source_now sink_before sink_now status =
     (status ≡ due_status words bytes) ⊎ IsExcused words bytes source_before source_now sink_before sink_now status
-
--- The bytes are a valid script, which is built.
-abbrev pub IsServed : List (List ℕ) → List ℕ → Type 0
-IsServed words bytes = (due_status words bytes ≡ Done) × (has_unbuilt (script_of bytes) ≡ false)
 
 -- The replies are a run of the script that the bytes are.
 abbrev pub AreRepliesTo : List ℕ → List Reply → Type 0

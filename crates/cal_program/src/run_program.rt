@@ -1,7 +1,7 @@
 //! A run of the program: what the words ask for, over a source and a sink.
 
 ghost use Rattle.std.specs.Prelude.{◌≡◌, ◌⊎◌, [], map, string_bytes, IfSome};
-ghost use Rattle.cal_program.specs.Outcome.{asks_for_run, IsAnswer, IsVerdict, IsDue, EndsDue, IsRight, IsServed, AreRepliesTo};
+ghost use Rattle.cal_program.specs.Outcome.{asks_for_run, IsAnswer, IsVerdict, IsDue, EndsDue, IsRight, due_status, AreRepliesTo};
 ghost use Rattle.cal_program.specs.ReplyText.{reply_lines};
 ghost use Rattle.cal_program.specs.Streams.{Rose, PutsAll};
 
@@ -12,8 +12,7 @@ use crate::sink::Sink;
 use crate::source::Source;
 use crate::status::{Outcome, Status};
 use crate::words::is_text;
-use cal_alloc::AllocationStrategy;
-use cal_transport::{Replies, RunError, Settings, run_transport};
+use cal_transport::{Replies, RunError, run_transport};
 use std::alloc::Global;
 
 /// Runs the program. With the one word `run` it reads the source to its end, runs the script that it has, and puts the
@@ -36,7 +35,7 @@ pub fn run_program<R: Source, W: Sink>(
         (R.state source.old) (R.state source.new) (W.state sink.old) (W.state sink.new) result.status) }
 
     // A valid script is done, unless memory runs out or the source or the sink fails.
-    ensures complete { IfSome (R.state source.old).left (λ bytes. IsServed (map string_bytes words.now) bytes
+    ensures complete { IfSome (R.state source.old).left (λ bytes. due_status (map string_bytes words.now) bytes ≡ Status.Done
         → ¬ Rose (R.state source.old).faults (R.state source.new).faults
         → ¬ Rose (W.state sink.old).faults (W.state sink.new).faults
         → (result.status ≡ Status.Done) ⊎ (result.status ≡ Status.NoMemory)) }
@@ -124,30 +123,6 @@ fn without_replies(alloc: Global, status: Status) -> Outcome
 {
     Outcome {
         status,
-        replies: no_replies(alloc),
-    }
-}
-
-/// No reply, without taking memory: the run of a transport that isn't built has none.
-fn no_replies(alloc: Global) -> Replies
-    ensures { result.items ≡ [] }
-{
-    let growing = Settings {
-        size: 1,
-        alignment: 1,
-        count: 1,
-        strategy: AllocationStrategy::BestFit,
-        buffer: 1,
-        borrow: 1,
-        overflow: false,
-        samples: 1,
-        segments: 1,
-        channels: 1,
-    };
-    match run_transport(alloc, &growing, &[]) {
-        Ok(replies) => replies,
-        Err(RunError::NoMemory(replies)) => replies,
-        Err(RunError::NotBuilt(replies)) => replies,
-        Err(RunError::Create(_)) => unreachable!(),
+        replies: Replies::empty(alloc),
     }
 }

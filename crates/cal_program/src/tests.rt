@@ -115,30 +115,34 @@ fn bad_lines(rt: HostRuntime) -> Result<(), Fail> {
 }
 
 /// Asserts that a script that is cut there, in this line of it, has its due outcome.
-fn assert_cut(rt: &(impl Abort + AllocGlobal), cut: usize, line: usize) -> Result<(), AllocError> {
-    let script = &EACH_COMMAND[..cut];
+fn assert_cut(rt: &(impl Abort + AllocGlobal), cut: usize, line: usize) -> Result<(), Fail> {
+    let script = EACH_COMMAND.get(..cut).ok_or("a cut is within the script")?;
     for (bytes, replies) in WHOLE {
         if bytes == cut {
-            let mut text = Vec::from_slice(rt.alloc(), &EACH_REPLY[..replies])?;
+            let due = EACH_REPLY
+                .get(..replies)
+                .ok_or("a cut's replies are within them")?;
+            let mut text = Vec::from_slice(rt.alloc(), due)?;
             if (26..=61).contains(&replies) {
                 text.extend_from_slice(IN_TRANSIT)?;
             }
-            return assert_run(rt, script, Status::Done, text.as_slice());
+            return Ok(assert_run(rt, script, Status::Done, text.as_slice())?);
         }
     }
     let text = format!(in rt.alloc(); "line {line}\n")?;
-    assert_run(rt, script, Status::BadScript { line }, text.as_bytes())
+    Ok(assert_run(rt, script, Status::BadScript { line }, text.as_bytes())?)
 }
 
 #[test]
 fn scripts_that_are_cut(rt: HostRuntime) -> Result<(), Fail> {
     let mut line = 1;
-    for cut in 0..=EACH_COMMAND.len() {
+    for (cut, byte) in EACH_COMMAND.iter().enumerate() {
         assert_cut(&rt, cut, line)?;
-        if cut < EACH_COMMAND.len() && EACH_COMMAND[cut] == b'\n' {
+        if *byte == b'\n' {
             line += 1;
         }
     }
+    assert_cut(&rt, EACH_COMMAND.len(), line)?;
     Ok(())
 }
 
