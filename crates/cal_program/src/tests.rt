@@ -139,7 +139,7 @@ fn scripts_that_are_cut(rt: HostRuntime) -> Result<(), Fail> {
     for (cut, byte) in EACH_COMMAND.iter().enumerate() {
         assert_cut(&rt, cut, line)?;
         if *byte == b'\n' {
-            line += 1;
+            line = line.saturating_add(1);
         }
     }
     assert_cut(&rt, EACH_COMMAND.len(), line)?;
