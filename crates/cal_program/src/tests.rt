@@ -174,9 +174,11 @@ fn settings_that_cannot_be(rt: HostRuntime) -> Result<(), Fail> {
 }
 
 #[test]
-fn settings_that_are_not_built(rt: HostRuntime) -> Result<(), Fail> {
+fn what_is_not_built(rt: HostRuntime) -> Result<(), Fail> {
     let growing = b"transport 8 8 1 best 1 1 off 1 1 1";
     assert_run(&rt, growing, Status::NotBuilt, b"not built\n")?;
+    let counting = b"transport 8 8 1 static 1 1 off 1 1 1\ncount";
+    assert_run(&rt, counting, Status::NotBuilt, b"not built\n")?;
     Ok(())
 }
 
