@@ -56,7 +56,7 @@ pub enum ShmAllocatorInitError {
 pub struct SizeOutOfRange;
 
 /// What an allocator is made from beside its memory.
-pub trait ShmAllocatorConfig: Copy + Default + Debug + Send {}
+pub trait ShmAllocatorConfig: Copy + Default + Debug {}
 
 /// A proposal for a segment of memory: its payload size in bytes, and the configuration of the allocator that is made for
 /// that much memory.
