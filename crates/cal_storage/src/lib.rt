@@ -1,0 +1,5 @@
+//! Storages.
+#![tactic(auto)]
+
+pub mod entry;
+pub mod registry;
