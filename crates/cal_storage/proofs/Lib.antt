@@ -1,0 +1,5 @@
+pub mod Changes
+pub mod Entering
+pub mod Keeping
+pub mod NameLists
+pub mod Within

@@ -8,17 +8,12 @@ use Rattle.std.specs.BTreeMap.{insert_entry}
 use Rattle.cal_storage.specs.declared.entry.Entry.{Entry}
 use Rattle.cal_storage.specs.declared.entry.Slot.{Slot}
 use Rattle.cal_storage.specs.declared.entry.Slot.TheVariants.{Ended, Kept}
+pub use Rattle.cal_storage.specs.declared.handle.Handle.{Handle}
 
 -- the names with the ids that they stand for, in the order of the paths' bytes, and a slot for each id that was ever made
 pub record Contents (T : Type 0) : Type 0 where
   pub names : List (List ℕ × ℕ)
   pub slots : List (Slot T)
-
--- what a handle knows: the id of its entry, the path under which that was made, and whether it owns the name
-pub record Handle : Type 0 where
-  pub id : ℕ
-  pub path : List ℕ
-  pub is_owner : Bool
 
 -- whether two paths are the same
 abbrev pub is_path : List ℕ → List ℕ → Bool

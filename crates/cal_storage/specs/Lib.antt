@@ -1,2 +1,9 @@
 pub mod Contents
+pub mod Finishing
+pub mod Initializer
+pub mod Refusals
+pub mod RegistryCalls
+pub mod RegistryLends
+pub mod SlotLends
+pub mod SlotsLend
 pub mod Soundness

@@ -1,5 +1,8 @@
 //! Storages.
 #![tactic(auto)]
 
+pub mod dynamic_storage;
 pub mod entry;
+pub mod handle;
+mod initialize;
 pub mod registry;

@@ -1,6 +1,6 @@
 //! A kind of concept over a registry with room for one path, managed through its bound.
-ghost use Rattle.std.specs.Prelude.{◌≡◌, None, codes, false, refl};
-ghost use Rattle.std.specs.Option.{option_to_list};
+ghost use Rattle.std.specs.Prelude.{◌≡◌, None, Some, codes, false, refl, if◌then◌else◌};
+ghost use Rattle.std.specs.Option.{option_to_list, option_and_then};
 ghost use Rattle.cal_names.specs.Settings.{extracted_name_at};
 ghost use Rattle.cal_names.specs.NamedConceptMgmt.{is_name, is_name-same};
 
@@ -97,6 +97,9 @@ impl NamedConceptMgmt for Lone {
     ghost shown_name = { extracted_name_at };
 
     ghost goes_with = { λ settings name path. is_name name (extracted_name_at settings path) };
+
+    ghost removed = { λ settings name reg.
+        option_and_then (λ path. if is_name name (extracted_name_at settings path) then None else Some path) reg };
 
     ghost lists_first = { false };
 

@@ -1,0 +1,28 @@
+-- What a creation, and the finish of an entry that was being made, make of a registry.
+use Rattle.std.specs.Prelude.{◌≡◌, ℕ, ◌⊎◌, Bool, true, false, Result, Ok, Err, None, IsSomeAnd, List, length, if◌then◌else◌}
+use Rattle.std.specs.Fn.{Mut}
+use Rattle.std.specs.Borrow.{MutBor}
+use Rattle.cal_alloc.specs.Bump.{Bump}
+use Rattle.cal_storage.specs.Contents.{Contents, Handle, id_at, value_of, created, finished, withdrawn}
+use Rattle.cal_storage.specs.Refusals.{finished_version}
+use Rattle.cal_storage.specs.Initializer.{Initializes}
+
+module _ {F T : Type 0} (calls : Mut F (MutBor T × (MutBor Bump × Unit {0})) (Bool × (MutBor T × (MutBor Bump × Unit {0})))) where
+  -- The initializer answered true, and the path, which stood for nothing, stands for a new entry with the value that it left.
+  pub record Creates (initializer : F) (value : T) (room : ℕ) (old : Contents T) (path : List ℕ) (new : Contents T) : Type 0 where
+    pub left : T
+    pub initialized : Initializes calls initializer value room left true
+    pub was_free : id_at old path ≡ None
+    pub created : new ≡ created old path left finished_version
+
+  -- the initializer answered false
+  pub record Refuses (initializer : F) (value : T) (room : ℕ) : Type 0 where
+    pub left : T
+    pub initialized : Initializes calls initializer value room left false
+
+  -- The initializer was called on the value of an entry. Where it answered true the entry has the value that it left, and is
+  -- finished; else the entry has ended, and its name is gone where it still stood for it.
+  pub record FinishesEntry (initializer : F) (room : ℕ) (old : Contents T) (handle : Handle) (answer : Bool) (new : Contents T) : Type 0 where
+    pub left : T
+    pub initialized : IsSomeAnd (value_of old handle.id) (λ value. Initializes calls initializer value room left answer)
+    pub contents : new ≡ (if answer then finished old handle.id left finished_version else withdrawn old handle)
