@@ -171,15 +171,20 @@ pub trait NamedConceptBuilder<T: NamedConceptMgmt> {
     // What its configuration holds.
     ghost concept_settings: { Self → Settings };
 
+    // Whether all that a builder has beside these is as in a new one.
+    ghost IsDefault: { Self → Type 0 };
+
     /// A builder of the concept of this name, with the default configuration.
     fn new(name: &FileName) -> Self
         ensures name { concept_name result ≡ name.now }
-        ensures settings { concept_settings result ≡ T.Configuration.initial };
+        ensures settings { concept_settings result ≡ T.Configuration.initial }
+        ensures defaults { IsDefault result };
 
     /// The builder with this configuration.
     fn config(self, config: &T::Configuration) -> Self
         ensures name { concept_name result ≡ concept_name self }
-        ensures settings { concept_settings result ≡ T.Configuration.settings config.now };
+        ensures settings { concept_settings result ≡ T.Configuration.settings config.now }
+        ensures defaults { IsDefault self → IsDefault result };
 }
 
 /// What has a file name as its name.

@@ -31,6 +31,10 @@ one_more holders = min (holders + 1) (2 ^ 64 - 1)
 abbrev pub one_less : ℕ → ℕ
 one_less holders = if holders == 2 ^ 64 - 1 then holders else holders - 1
 
+-- the handle of an entry that was found under a path
+abbrev pub found_handle : List ℕ → ℕ → Handle
+found_handle path id = record { id = id; path = path; is_owner = false }
+
 module _ {T : Type 0} where
   -- the entry in a slot
   abbrev pub kept : Slot T → Option (Entry T)
@@ -100,6 +104,10 @@ module _ {T : Type 0} where
     names = insert_entry (slice_cmp nat_cmp) contents.names path (length contents.slots);
     slots = contents.slots ++ Kept (record { path = path; value = value; version = version; holders = 1 }) ∷ [];
   }
+
+  -- the handle of the entry that is created next
+  abbrev pub new_handle : Contents T → List ℕ → Bool → Handle
+  new_handle contents path is_owner = record { id = length contents.slots; path = path; is_owner = is_owner }
 
   -- an entry has one holder more
   abbrev pub opened : Contents T → ℕ → Contents T

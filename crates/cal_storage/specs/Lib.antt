@@ -1,6 +1,7 @@
 pub mod Contents
 pub mod Finishing
 pub mod Initializer
+pub mod Managing
 pub mod Refusals
 pub mod RegistryCalls
 pub mod RegistryLends

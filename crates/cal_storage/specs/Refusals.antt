@@ -1,7 +1,7 @@
 -- Why a creation or an opening is refused.
 use Rattle.std.specs.Prelude.{ℕ, Bool, not, nat_lt, ◌==◌, Option, Some, None, is_some, List, length, if◌then◌else◌}
 use Rattle.cal_names.specs.Settings.{Settings, file_name_for, file_path_for}
-use Rattle.cal_storage.specs.Contents.{Contents, id_at, entry_at}
+use Rattle.cal_storage.specs.Contents.{Contents, id_at, entry_at, removed}
 use Rattle.cal_storage.specs.declared.entry.Entry.{Entry}
 use Rattle.cal_storage.specs.declared.dynamic_storage.DynamicStorageCreateError.{DynamicStorageCreateError}
 use Rattle.cal_storage.specs.declared.dynamic_storage.DynamicStorageCreateError.TheVariants as create
@@ -38,3 +38,15 @@ module _ {T : Type 0} where
       if is_too_long settings name then Some create.PathTooLong
       else if is_some (id_at contents (file_path_for settings name)) then Some create.AlreadyExists
       else None
+
+  -- why a name is neither opened nor created under, but for causes of the creation itself
+  abbrev pub open_or_create_refusal : Bool → Contents T → Settings → List ℕ → Option DynamicStorageOpenError
+  open_or_create_refusal checks_version contents settings name =
+      if is_too_long settings name then Some open_error.PathTooLong
+      else if is_some (id_at contents (file_path_for settings name)) then entry_refusal checks_version (entry_at contents (file_path_for settings name))
+      else None
+
+  -- without a name; one whose path would be too long stands for nothing
+  abbrev pub name_removed : Contents T → Settings → List ℕ → Contents T
+  name_removed contents settings name =
+      if is_too_long settings name then contents else removed contents (file_path_for settings name)

@@ -1,6 +1,7 @@
 //! Storages.
 #![tactic(auto)]
 
+pub mod access_mode;
 pub mod dynamic_storage;
 pub mod entry;
 pub mod handle;

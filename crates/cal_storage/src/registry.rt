@@ -1,26 +1,27 @@
 //! The registry of all stored values of one type: names, which are paths that stand for entries, and the entries by their
 //! ids. An id is a place in a vector that only grows, so it is never used again. The layer above may rely on each call
 //! changing the name and the entry that it is about, and no other, and on an entry staying while somebody holds it.
-ghost use Rattle.std.specs.Prelude.{◌≡◌, ◌<◌, ◌≤◌, ◌^◌, ℕ, Some, None, length, vec_len, vec_capacity, is_some, IsSomeAnd, IfSome, IsSome, IfOk, IfErr, OnOk, OnErr, IsErrOf, ◌↔◌, ◌⊎◌, slice_index_or, if◌then◌else◌};
+ghost use Rattle.std.specs.Prelude.{◌≡◌, ◌<◌, ◌≤◌, ◌^◌, ℕ, Bool, List, not, Some, None, length, vec_len, vec_capacity, is_some, IsSomeAnd, IfSome, IsSome, IfOk, IfErr, OnOk, OnErr, IsErrOf, ◌↔◌, ◌⊎◌, slice_index_or, if◌then◌else◌};
 ghost use Rattle.std.specs.Borrow.{sem};
 ghost use Rattle.std.specs.Option.{option_copied};
 ghost use Rattle.std.specs.Result.{result_err};
-ghost use Rattle.std.specs.List.{filter_map};
+ghost use Rattle.std.specs.List.{filter, filter_map, list_any};
 ghost use Rattle.std.specs.Map.{lookup, keys_of, remove_entry};
 ghost use Rattle.std.specs.Ordering.{nat_cmp};
 ghost use Rattle.std.specs.BTreeMap.{insert_entry};
 ghost use Rattle.std.specs.Cmp.Lexicographic.{slice_cmp};
 ghost use Rattle.cal_names.specs.FilePath.{IsFilePath};
 ghost use Rattle.cal_names.specs.Settings.{extracted_name_at};
-ghost use Rattle.cal_storage.specs.Contents.{is_id, is_path, Has, nothing_registered, id_at, entry_at, entry_of, value_of, created, opened, removed, closed, version_set};
+ghost use Rattle.cal_storage.specs.Contents.{is_id, is_path, Has, nothing_registered, id_at, entry_at, entry_of, value_of, created, opened, closed, version_set};
+ghost use Rattle.cal_storage.specs.Managing.{goes_with};
 ghost use Rattle.cal_storage.specs.Soundness.{IsSound};
 ghost use Rattle.cal_storage.specs.Initializer.{MayInitialize, Initializes};
-ghost use Rattle.cal_storage.specs.Refusals.{entry_refusal, finished_version};
-ghost use Rattle.cal_storage.specs.RegistryCalls.{Creates, Refuses, FinishesEntry};
+ghost use Rattle.cal_storage.specs.Refusals.{entry_refusal, name_removed};
+ghost use Rattle.cal_storage.specs.RegistryCalls.{Creates, CreateFails, FinishesEntry};
 ghost use Rattle.cal_storage.specs.RegistryLends.{LendsValue};
 ghost use Rattle.cal_storage.specs.SlotsLend.{LendsSlot};
 ghost use Rattle.cal_storage.specs.declared.entry.Slot.TheVariants.{Ended};
-ghost use Rattle.cal_storage.specs.declared.dynamic_storage.DynamicStorageCreateError.TheVariants.{AlreadyExists, InitializationFailed, NoMemory};
+ghost use Rattle.cal_storage.specs.declared.dynamic_storage.DynamicStorageCreateError.TheVariants.{AlreadyExists, NoMemory};
 
 use crate::dynamic_storage::{DynamicStorageCreateError, DynamicStorageOpenError};
 use crate::entry::{Entry, FINISHED_VERSION, Slot};
@@ -93,14 +94,26 @@ impl<T> Registry<T> {
         }
     }
 
+    /// Whether a name is there; not where its path would be too long.
+    pub(crate) fn has_name<C: NamedConceptConfiguration>(&self, name: &FileName, config: &C) -> bool
+        ensures { result ≡ list_any (goes_with (C.settings config.now) name.now) (keys_of self.now.names) }
+    {
+        let names = &self.names;
+        match config.path_for(name) {
+            Ok(path) => names.contains_key(&path),
+            Err(_) => false,
+        }
+    }
+
     /// The names that a configuration extracts from the paths, in the order of the paths' bytes.
     pub(crate) fn list<C: NamedConceptConfiguration>(
         &self,
         alloc: Global,
         config: &C,
     ) -> Result<Vec<FileName>, AllocError>
-        ensures { IfOk result (λ list.
+        ensures names { IfOk result (λ list.
             list.items ≡ filter_map (extracted_name_at (C.settings config.now)) (keys_of self.now.names)) }
+        ensures sound { IsSound self.now }
     {
         self.names
             .keys()
@@ -171,8 +184,7 @@ impl<T: Drop> Registry<T> {
         requires callable { MayInitialize F.FnMut initializer initial_value room }
         requires room { room ≤ 2 ^ 56 }
         ensures exists { IsErrOf result AlreadyExists ↔ IsSome (id_at self.old path.now) }
-        ensures error { IfErr result (λ error. (error ≡ AlreadyExists) ⊎ (error ≡ NoMemory)
-            ⊎ ((error ≡ InitializationFailed) × Refuses F.FnMut initializer initial_value room)) }
+        ensures error { IfErr result (CreateFails F.FnMut (Some AlreadyExists) initializer initial_value room) }
         ensures id { IfOk result (λ id. id ≡ length self.old.slots) }
         ensures created { OnOk result (Creates F.FnMut initializer initial_value room self.old path.now self.new) }
         ensures unchanged { OnErr result (self.new ≡ self.old) }
@@ -239,17 +251,25 @@ impl<T: Drop> Registry<T> {
         false
     }
 
-    /// Takes a path away, and answers whether it was there. Its entry stays while somebody holds it.
-    pub(crate) fn remove(&mut self, path: &FilePath) -> bool
-        ensures found { result ≡ is_some (id_at self.old path.now) }
-        ensures removed { self.new ≡ removed self.old path.now }
+    /// Takes a name away, and answers whether it was there; not where its path would be too long. Its entry stays while
+    /// somebody holds it.
+    pub(crate) fn remove<C: NamedConceptConfiguration>(&mut self, name: &FileName, config: &C) -> bool
+        ensures found { result ≡ list_any (goes_with (C.settings config.now) name.now) (keys_of self.old.names) }
+        ensures gone { let goes : List ℕ → Bool = goes_with (C.settings config.now) name.now in
+            keys_of self.new.names ≡ filter (λ path. not (goes path)) (keys_of self.old.names) }
+        ensures removed { self.new ≡ name_removed self.old (C.settings config.now) name.now }
     {
-        let Some(id) = self.id_at(path) else {
+        let names = &mut self.names;
+        let Ok(path) = config.path_for(name) else {
             return false;
         };
-        self.names.remove(path);
-        slot_mut(&mut self.slots, id).end_if_left(false);
-        true
+        match names.remove(&path) {
+            None => false,
+            Some(id) => {
+                slot_mut(&mut self.slots, id).end_if_left(false);
+                true
+            }
+        }
     }
 
     /// Closes an entry: it has one holder less, and the name of an owner goes where it still stands for the entry. The entry

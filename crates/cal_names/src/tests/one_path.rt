@@ -166,6 +166,9 @@ impl NamedConceptBuilder<Lone> for Built {
 
     ghost concept_settings = { λ b. record { prefix = b.config.prefix; type_name = None; suffix = b.config.suffix; path_hint = b.config.path_hint } };
 
+    // A builder has nothing beside these.
+    ghost IsDefault = { λ _. Unit {0} };
+
     fn new(name: &FileName) -> Self {
         Built {
             name: *name,

@@ -1,7 +1,7 @@
 use Rattle.std.proofs.Common.{◌≡◌, ◌∙◌, ◌&&◌, not, sym, ap, subst}
 use Rattle.cal_storage.specs.Contents.{is_id, id_at, Has}
 use Rattle.cal_storage.specs.Soundness.{IsSound}
-use Rattle.cal_storage.proofs.Changes.{closed-is}
+use Rattle.cal_storage.proofs.ChangeParts.{closed-is}
 use Rattle.cal_storage.proofs.Keeping.{closed-IsSound}
 use Rattle.cal_storage.proofs.registry.Registry.close.Goals as goal
 use Rattle.cal_storage.proofs.registry.Registry.close.Goals.{then-is_named, else-is_named, then-is_named-2, else-is_named-2}

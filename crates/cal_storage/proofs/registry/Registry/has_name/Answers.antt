@@ -1,0 +1,9 @@
+use Rattle.std.proofs.Common.{◌∙◌}
+use Rattle.cal_storage.proofs.Naming.{found_at, found_nowhere}
+use Rattle.cal_storage.proofs.registry.Registry.has_name.Goals as goal
+
+pub returns-in-Ok : goal.returns-in-Ok
+returns-in-Ok g c = ?
+
+pub returns-in-Err : goal.returns-in-Err
+returns-in-Err g c = rw (← c.self.view_is) (found_nowhere _ c.args.name.now _ c.in-Err.ensures.inverse _ c.self.invariant)

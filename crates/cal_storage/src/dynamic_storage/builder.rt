@@ -1,0 +1,169 @@
+//! The builder of storages of both kinds.
+ghost use Rattle.std.specs.Prelude.{◌≡◌, ◌≤◌, ◌^◌, true, Some};
+
+use crate::access_mode::AccessMode;
+use crate::dynamic_storage::configuration::Configuration;
+use crate::dynamic_storage::storage::{Kind, Storage};
+use crate::dynamic_storage::{
+    DynamicStorageBuilder, DynamicStorageCreateError, DynamicStorageOpenError,
+    DynamicStorageOpenOrCreateError,
+};
+use crate::handle::Handle;
+use crate::registry::Registry;
+use cal_alloc::BumpAllocator;
+use cal_names::{FileName, NamedConceptBuilder, NamedConceptConfiguration, NamedType};
+use std::fmt::Debug;
+use std::marker::PhantomData;
+
+/// Room beside a value, for what its initializer takes.
+#[derive(Clone, Copy, Debug)]
+struct Room {
+    bytes: usize,
+    ghost fits: { bytes ≤ 2 ^ 56 },
+}
+
+/// A builder of storages of a type, of one kind.
+#[derive_where(Debug)]
+#[derive(Drop)]
+pub struct Builder<T, K> {
+    name: FileName,
+    config: Configuration<T>,
+    has_ownership: bool,
+    room: Room,
+    call_drop_on_destruction: bool,
+    timeout: usize,
+    of: PhantomData<K>,
+}
+
+impl<T: NamedType + Debug + Drop, K: Kind> NamedConceptBuilder<Storage<T, K>> for Builder<T, K> {
+    ghost concept_name = { λ b. b.name };
+
+    ghost concept_settings = { λ b. record { prefix = b.config.prefix; type_name = Some b.config.type_name; suffix = b.config.suffix; path_hint = b.config.path_hint } };
+
+    ghost IsDefault = { λ b. (b.has_ownership ≡ true) × (b.room.bytes ≡ 0) };
+
+    fn new(name: &FileName) -> Self {
+        Builder {
+            name: *name,
+            config: Configuration::default(),
+            has_ownership: true,
+            room: Room { bytes: 0 },
+            call_drop_on_destruction: true,
+            timeout: 0,
+            of: PhantomData,
+        }
+    }
+
+    fn config(self, config: &Configuration<T>) -> Self {
+        Builder {
+            config: config.clone().unwrap(),
+            ..self
+        }
+    }
+}
+
+impl<T: NamedType + Debug + Drop, K: Kind> DynamicStorageBuilder<T, Storage<T, K>>
+    for Builder<T, K>
+{
+    ghost is_owner = { λ b. b.has_ownership };
+
+    ghost room = { λ b. b.room.bytes };
+
+    fn call_drop_on_destruction(self, value: bool) -> Self {
+        Builder {
+            call_drop_on_destruction: value,
+            ..self
+        }
+    }
+
+    fn has_ownership(self, value: bool) -> Self {
+        Builder {
+            has_ownership: value,
+            ..self
+        }
+    }
+
+    fn supplementary_size(self, value: usize) -> Self {
+        Builder {
+            room: Room { bytes: value },
+            ..self
+        }
+    }
+
+    fn timeout(self, turns: usize) -> Self {
+        Builder {
+            timeout: turns,
+            ..self
+        }
+    }
+
+    fn create<F: FnMut(&mut T, &mut BumpAllocator) -> bool + Drop>(
+        self,
+        reg: &mut Registry<T>,
+        initial_value: T,
+        initializer: F,
+    ) -> Result<Storage<T, K>, DynamicStorageCreateError> {
+        let Ok(path) = self.config.path_for(&self.name) else {
+            return Err(DynamicStorageCreateError::PathTooLong);
+        };
+        let id = reg.create(&path, initial_value, self.room.bytes, initializer)?;
+        Ok(Storage {
+            name: self.name,
+            handle: Handle {
+                id,
+                path,
+                is_owner: self.has_ownership,
+            },
+            of: PhantomData,
+        })
+    }
+
+    fn open(
+        self,
+        reg: &mut Registry<T>,
+        _access_mode: AccessMode,
+    ) -> Result<Storage<T, K>, DynamicStorageOpenError> {
+        let Ok(path) = self.config.path_for(&self.name) else {
+            return Err(DynamicStorageOpenError::PathTooLong);
+        };
+        let id = reg.open(&path, K::checks_version())?;
+        Ok(Storage {
+            name: self.name,
+            handle: Handle {
+                id,
+                path,
+                is_owner: false,
+            },
+            of: PhantomData,
+        })
+    }
+
+    fn open_or_create<F: FnMut(&mut T, &mut BumpAllocator) -> bool + Drop>(
+        self,
+        reg: &mut Registry<T>,
+        initial_value: T,
+        initializer: F,
+    ) -> Result<Storage<T, K>, DynamicStorageOpenOrCreateError> {
+        let Ok(path) = self.config.path_for(&self.name) else {
+            return Err(DynamicStorageOpenOrCreateError::DynamicStorageOpenError(
+                DynamicStorageOpenError::PathTooLong,
+            ));
+        };
+        if !reg.contains(&path) {
+            return match self.create(reg, initial_value, initializer) {
+                Ok(storage) => Ok(storage),
+                Err(error) => Err(DynamicStorageOpenOrCreateError::DynamicStorageCreateError(
+                    error,
+                )),
+            };
+        }
+        match self.open(reg, AccessMode::ReadWrite) {
+            Ok(storage) => Ok(storage),
+            Err(error) => Err(DynamicStorageOpenOrCreateError::DynamicStorageOpenError(
+                error,
+            )),
+        }
+    }
+
+    ghost defaults = { λ builder default. default };
+}
