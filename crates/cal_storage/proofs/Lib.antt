@@ -1,2 +1,5 @@
+pub mod EntryLaws
+pub mod HandleLaws
 pub mod Keeping
+pub mod LaterLaws
 pub mod NameLists
