@@ -1,11 +1,11 @@
 -- What each change does to its own id and path, and that it leaves the others.
-use Rattle.std.proofs.Common.{◌≡◌, ◌≢◌, ℕ, ◌<◌, Bool, true, false, cond, not, ◌&&◌, ◌==◌, ◌⊎◌, List, length, set, Option, Some, None, IsSomeAnd, IsTrue, if◌then◌else◌, option_map, slice_set, refl, sym, ap, subst, ◌∙◌, inl, inr, true≢false, arith, eq-eqb, ne_eqb}
-use Rattle.std.proofs.lemmas.Bool.{cases_Bool, cases_eq, cond-true, cond-false, false≢true, and_right, and_from}
+use Rattle.std.proofs.Common.{◌≡◌, ◌≢◌, ℕ, Bool, true, false, cond, not, ◌&&◌, ◌==◌, List, length, Option, Some, None, if◌then◌else◌, option_map, slice_set, refl, sym, ap, subst, ◌∙◌, inl, inr, true≢false, arith, eq-eqb, ne_eqb}
+use Rattle.std.proofs.lemmas.Bool.{cases_Bool, cond-true, cond-false, false≢true, and_right, and_from}
 use Rattle.std.proofs.lemmas.Option.{none-some, same_Some}
 use Rattle.cal_storage.specs.declared.entry.Entry.{Entry}
 use Rattle.cal_storage.specs.declared.entry.Slot.{Slot}
 use Rattle.cal_storage.specs.declared.entry.Slot.TheVariants.{Ended, Kept}
-use Rattle.cal_storage.specs.Contents.{Contents, Handle, is_path, one_less, kept, changed, let_go, left_of, id_at, slot_of, entry_of, Has, with_slot, without_name, created, opened, name_taken, removed, is_named, closed, finished, withdrawn, with_value, versioned, valued, version_at, version_set}
+use Rattle.cal_storage.specs.Contents.{Contents, Handle, is_path, one_less, kept, changed, let_go, left_of, id_at, slot_of, entry_of, with_slot, without_name, created, opened, name_taken, removed, is_named, closed, finished, withdrawn, with_value, versioned, valued, version_at, version_set}
 use Rattle.cal_storage.specs.ContentsLaws.{LeavesOthers, MakesEntry, ChangesEntry, ChangesNamedEntry, TakesName, GivesUpName, LetsGo, Withdraws, one_holder_more, one_holder_less, if_held}
 use Rattle.cal_storage.specs.Soundness.{IsSound}
 use Rattle.cal_storage.proofs.NameLists.{is_path-apart}
@@ -161,12 +161,12 @@ module _ {T : Type 0} where
         lets_go entry is gives_up other_names forth back = record {
           name = gives_up;
           stays = λ left. let_go_entry entry is ∙ cond-false _ None (Some (one_holder_less entry)) (elim left [
-            inl some ↦ and_right (not has_name) (one_less entry.holders == 0) (ne_eqb (one_less entry.holders) 0 (λ none. omega arith))
-          | inr at ↦ ap (λ b. not b && one_less entry.holders == 0) (forth at)
+            | inl some ↦ and_right (not has_name) (one_less entry.holders == 0) (ne_eqb (one_less entry.holders) 0 (λ none. omega arith))
+            | inr at ↦ ap (λ b. not b && one_less entry.holders == 0) (forth at)
           ]);
           ends = λ none gone. let_go_entry entry is ∙ cond-true _ None (Some (one_holder_less entry)) (and_from (not has_name) (one_less entry.holders == 0) (elim (cases_Bool has_name) [
-            inl h ↦ absurd (gone (back h))
-          | inr h ↦ ap not h
+            | inl h ↦ absurd (gone (back h))
+            | inr h ↦ ap not h
           ]) (eq-eqb (one_less entry.holders) 0 none));
           others = record { entries = entry_of-with_slot-other contents handle.id (left_of has_name (let_go (slot_of contents handle.id))); names = other_names };
         }

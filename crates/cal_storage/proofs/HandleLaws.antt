@@ -1,13 +1,12 @@
 -- A registry stays sound over runs of changes, and keeps the entry of a handle that they spare.
-use Rattle.std.proofs.Common.{◌≡◌, ◌≢◌, ℕ, ◌<◌, ◌≤◌, true, false, not, ◌&&◌, ◌==◌, List, [], ◌∷◌, length, Option, Some, None, IsSomeAnd, cond, option_map, refl, sym, ap, subst, ◌∙◌, inl, inr, true≢false, arith, ne_eqb}
+use Rattle.std.proofs.Common.{◌≡◌, ◌≢◌, ℕ, ◌<◌, ◌==◌, List, [], ◌∷◌, length, Option, Some, None, IsSomeAnd, option_map, refl, sym, ap, subst, ◌∙◌, inl, inr, true≢false, arith, ne_eqb}
 use Rattle.std.proofs.lemmas.Bool.{cases_Bool, cases_eq, cond-false}
 use Rattle.std.proofs.lemmas.List.{get_or_past}
-use Rattle.std.proofs.lemmas.Option.{none-some, same_Some}
 use Rattle.cal_storage.specs.declared.entry.Entry.{Entry}
 use Rattle.cal_storage.specs.declared.entry.Slot.TheVariants.{Ended}
 use Rattle.cal_storage.specs.Changes.{Change, creates, opens, removes, closes, finishes, withdraws, sets_value, sets_version, after, after_all, IsAllowed, IsRun, IsHeld, IsShared, Spares}
-use Rattle.cal_storage.specs.Contents.{Contents, Handle, is_id, kept, one_less, id_at, entry_of, Has, created, opened, removed, closed, finished, withdrawn, with_value, version_set}
-use Rattle.cal_storage.specs.ContentsLaws.{LeavesOthers, ChangesEntry, ChangesNamedEntry, TakesName, LetsGo, if_held}
+use Rattle.cal_storage.specs.Contents.{Contents, Handle, is_id, kept, one_less, id_at, entry_of, Has, created, withdrawn}
+use Rattle.cal_storage.specs.ContentsLaws.{IsLater, LeavesOthers, ChangesEntry, ChangesNamedEntry, TakesName, LetsGo, if_held}
 use Rattle.cal_storage.specs.Soundness.{IsSound}
 use Rattle.cal_storage.proofs.EntryLaws.{opened-ChangesEntry, with_value-ChangesEntry, finished-ChangesEntry, version_set-ChangesNamedEntry, created-LeavesOthers, removed-TakesName, closed-LetsGo, withdrawn-Withdraws}
 use Rattle.cal_storage.proofs.Keeping.{is_id-true, is_id-same, created-IsSound, opened-IsSound, removed-IsSound, closed-IsSound, finished-IsSound, withdrawn-IsSound, with_value-IsSound, version_set-IsSound}
@@ -43,6 +42,14 @@ module _ {T : Type 0} where
     pub Has-same : entry_of new handle.id ≡ entry_of old handle.id → Has new handle
     Has-same same = subst (λ o. IsSomeAnd o (λ entry. entry.path ≡ handle.path)) (sym same) has
 
+    -- what a registry has of an id that was made, it had before
+    pub Has-before : (older : Contents T) → IsLater older old → handle.id < length older.slots → Has older handle
+    Has-before older is_later within = from (entry_of old handle.id) refl has
+      where
+        from : (at : Option (Entry T)) → entry_of old handle.id ≡ at → IsSomeAnd at (λ entry. entry.path ≡ handle.path) → Has older handle
+        from None is h = absurd h
+        from (Some entry) is h = subst (λ path. IsSomeAnd (entry_of older handle.id) (λ before. before.path ≡ path)) h (is_later.same handle.id entry within is)
+
     pub Has-LeavesOthers : (id : ℕ) (path : List ℕ) → handle.id ≢ id → LeavesOthers old new id path → Has new handle
     Has-LeavesOthers id path apart leaves = Has-same (leaves.entries handle.id apart)
 
@@ -56,16 +63,16 @@ module _ {T : Type 0} where
     pub Has-ChangesEntry : (id : ℕ) (change : Entry T → Entry T) → ((entry : Entry T) → (change entry).path ≡ entry.path) → ChangesEntry old new id change → Has new handle
     Has-ChangesEntry id change keeps_path changes =
         elim (cases_eq handle.id id) [
-          inl same ↦ changes_here change keeps_path (subst (λ i. entry_of new i ≡ option_map change (entry_of old i)) (sym same) changes.entry)
-        | inr apart ↦ Has-same (changes.others handle.id apart)
+          | inl same ↦ changes_here change keeps_path (subst (λ i. entry_of new i ≡ option_map change (entry_of old i)) (sym same) changes.entry)
+          | inr apart ↦ Has-same (changes.others handle.id apart)
         ]
 
     -- whether a path stands for the handle's id
     stands : (path : List ℕ) → (id_at old path ≡ Some handle.id → Has new handle) → (id_at old path ≢ Some handle.id → Has new handle) → Has new handle
     stands path where_named otherwise =
         elim (cases_Bool (is_id (id_at old path) handle.id)) [
-          inl h ↦ where_named (is_id-true (id_at old path) handle.id h)
-        | inr h ↦ otherwise (λ at. true≢false (sym (is_id-same (id_at old path) handle.id at) ∙ h))
+          | inl h ↦ where_named (is_id-true (id_at old path) handle.id h)
+          | inr h ↦ otherwise (λ at. true≢false (sym (is_id-same (id_at old path) handle.id at) ∙ h))
         ]
 
     pub Has-ChangesNamedEntry : (path : List ℕ) (change : Entry T → Entry T) → ((entry : Entry T) → (change entry).path ≡ entry.path) → ChangesNamedEntry old new path change → Has new handle
@@ -87,12 +94,12 @@ module _ {T : Type 0} where
     pub Has-LetsGo : (other : Handle) (entry : Entry T) → entry_of old other.id ≡ Some entry → (other.id ≡ handle.id → IsShared old handle.id) → LetsGo old new other entry → Has new handle
     Has-LetsGo other entry is shared goes =
         elim (cases_eq handle.id other.id) [
-          inl same ↦
-            let here : entry_of old handle.id ≡ Some entry = ap (entry_of old) same ∙ is in
-            let its_path : entry.path ≡ handle.path = subst (λ o. IsSomeAnd o (λ e. e.path ≡ handle.path)) here has in
-            let stays = goes.stays (inl (another_left entry here (shared (sym same)))) in
-            subst (λ o. IsSomeAnd o (λ e. e.path ≡ handle.path)) (sym (ap (entry_of new) same ∙ stays)) its_path
-        | inr apart ↦ Has-same (goes.others.entries handle.id apart)
+          | inl same ↦
+              let here : entry_of old handle.id ≡ Some entry = ap (entry_of old) same ∙ is in
+              let its_path : entry.path ≡ handle.path = subst (λ o. IsSomeAnd o (λ e. e.path ≡ handle.path)) here has in
+              let stays = goes.stays (inl (another_left entry here (shared (sym same)))) in
+              subst (λ o. IsSomeAnd o (λ e. e.path ≡ handle.path)) (sym (ap (entry_of new) same ∙ stays)) its_path
+          | inr apart ↦ Has-same (goes.others.entries handle.id apart)
         ]
 
   -- an entry that is there isn't that of an id yet to be made

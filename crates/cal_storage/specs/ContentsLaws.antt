@@ -1,5 +1,5 @@
 -- What each change to a registry does and what it leaves, in the words of names and entries.
-use Rattle.std.specs.Prelude.{◌≡◌, ◌≢◌, ℕ, ◌<◌, ◌≤◌, ◌⊎◌, Bool, true, false, ◌&&◌, Option, Some, None, IsSomeAnd, IsTrue, List, length, ◌==◌, if◌then◌else◌}
+use Rattle.std.specs.Prelude.{◌≡◌, ◌≢◌, ℕ, ◌<◌, ◌≤◌, ◌⊎◌, false, Option, Some, None, IsSomeAnd, IsTrue, List, length, ◌==◌, if◌then◌else◌}
 use Rattle.std.specs.Option.{option_map}
 use Rattle.cal_storage.specs.declared.entry.Entry.{Entry}
 use Rattle.cal_storage.specs.Contents.{Contents, Handle, one_more, one_less, id_at, entry_of}
@@ -9,10 +9,12 @@ pub record LeavesOthers {T : Type 0} (old new : Contents T) (id : ℕ) (path : L
   pub entries : (other : ℕ) → other ≢ id → entry_of new other ≡ entry_of old other
   pub names : (other : List ℕ) → other ≢ path → id_at new other ≡ id_at old other
 
--- No id is used again: as many were made at least, and where one's entry had ended it stays ended.
+-- No id is used again. As many were made at least; where the entry of one had ended it stays ended, and where one has an entry
+-- it had one before, made under the same path.
 pub record IsLater {T : Type 0} (old new : Contents T) : Type 0 where
   pub made : length old.slots ≤ length new.slots
   pub ended : (id : ℕ) → id < length old.slots → entry_of old id ≡ None → entry_of new id ≡ None
+  pub same : (id : ℕ) (entry : Entry T) → id < length old.slots → entry_of new id ≡ Some entry → IsSomeAnd (entry_of old id) (λ before. before.path ≡ entry.path)
 
 module _ {T : Type 0} where
   -- the entry with one holder more, and with one less

@@ -1,4 +1,5 @@
 pub mod Changes
 pub mod Contents
 pub mod ContentsLaws
+pub mod Examples
 pub mod Soundness

@@ -51,7 +51,8 @@ pub fn a_registry_stays_sound<T>()
     ensures kept { (old : Contents T) (changes : List (Change T)) → IsSound old → IsRun old changes → IsSound (after_all old changes) }
 {}
 
-/// An id is never used again: over any changes no id is forgotten, and an entry that has ended stays so.
+/// An id is never used again: over any changes an entry that has ended stays so, and an id that has an entry had one before, made
+/// under the same path.
 pub fn an_id_is_never_used_again<T>()
     ensures { (old : Contents T) (changes : List (Change T)) → IsLater old (after_all old changes) }
 {}
