@@ -87,6 +87,24 @@ module _ {T : Type 0} where
     pub version_set-ChangesNamedEntry : ChangesNamedEntry contents (version_set contents path version) path (λ entry. record entry { version = version })
     version_set-ChangesNamedEntry = versioned_at (id_at contents path) refl
 
+  module _ (contents : Contents T) where
+    pub opened-LeavesOthers : (id : ℕ) (path : List ℕ) → LeavesOthers contents (opened contents id) id path
+    opened-LeavesOthers id path = ChangesEntry-LeavesOthers contents _ id one_holder_more path (opened-ChangesEntry contents id)
+
+    pub with_value-LeavesOthers : (id : ℕ) (value : T) (path : List ℕ) → LeavesOthers contents (with_value contents id value) id path
+    with_value-LeavesOthers id value path = ChangesEntry-LeavesOthers contents _ id _ path (with_value-ChangesEntry contents id value)
+
+    pub finished-LeavesOthers : (id : ℕ) (value : T) (version : ℕ) (path : List ℕ) → LeavesOthers contents (finished contents id value version) id path
+    finished-LeavesOthers id value version path = ChangesEntry-LeavesOthers contents _ id _ path (finished-ChangesEntry contents id value version)
+
+    pub version_set-LeavesOthers : (path : List ℕ) (version id : ℕ) → id_at contents path ≡ Some id → LeavesOthers contents (version_set contents path version) id path
+    version_set-LeavesOthers path version id at =
+        let changes = version_set-ChangesNamedEntry contents path version in
+        record {
+          entries = λ other apart. changes.others other (λ named. apart (same_Some other id (sym named ∙ at)));
+          names = λ other apart. let names = changes.names in rw names;
+        }
+
   -- ---- a new entry
 
   module _ (contents : Contents T) (path : List ℕ) (value : T) (version : ℕ) where
@@ -203,6 +221,14 @@ module _ {T : Type 0} where
         pub closed-LetsGo : LetsGo contents (closed contents handle) handle entry
         closed-LetsGo = closing handle.is_owner (is_named contents handle) refl refl
 
+      closing_others : (is_owner has_name : Bool) → LeavesOthers contents (with_slot (if is_owner then (if has_name then without_name contents handle.path else contents) else contents) handle.id (left_of (has_name && not is_owner) (let_go (slot_of contents handle.id)))) handle.id handle.path
+      closing_others true true = record { entries = entry_of-with_slot-other contents handle.id _; names = λ other apart. id_at-kept contents sound handle.path other (differs handle.path other apart) }
+      closing_others true false = record { entries = entry_of-with_slot-other contents handle.id _; names = λ other apart. refl }
+      closing_others false has_name = record { entries = entry_of-with_slot-other contents handle.id _; names = λ other apart. refl }
+
+      pub closed-LeavesOthers : LeavesOthers contents (closed contents handle) handle.id handle.path
+      closed-LeavesOthers = closing_others handle.is_owner (is_named contents handle)
+
       withdrawing : (has_name : Bool) → is_named contents handle ≡ has_name → Withdraws contents (with_slot (if has_name then without_name contents handle.path else contents) handle.id Ended) handle
       withdrawing true has = record {
         name = λ at. id_at-gone contents sound handle.path handle.path refl;
@@ -219,3 +245,6 @@ module _ {T : Type 0} where
 
       pub withdrawn-Withdraws : Withdraws contents (withdrawn contents handle) handle
       withdrawn-Withdraws = withdrawing (is_named contents handle) refl
+
+      pub withdrawn-LeavesOthers : LeavesOthers contents (withdrawn contents handle) handle.id handle.path
+      withdrawn-LeavesOthers = let withdraws = withdrawn-Withdraws in withdraws.others

@@ -3,3 +3,4 @@ pub mod HandleLaws
 pub mod Keeping
 pub mod LaterLaws
 pub mod NameLists
+pub mod OpenLaws

@@ -29,7 +29,7 @@ module _ {T : Type 0} where
   if_held None = None
   if_held (Some entry) = if entry.holders == 0 then None else Some entry
 
--- A path that stood for nothing stands for a new id, which no call has made before. Its entry has one holder.
+-- A path stands for a new id, which no call has made before. Its entry has one holder, and all others are left.
 pub record MakesEntry {T : Type 0} (old new : Contents T) (path : List ℕ) (value : T) (version : ℕ) : Type 0 where
   pub name : id_at new path ≡ Some (length old.slots)
   pub entry : entry_of new (length old.slots) ≡ Some (record { path = path; value = value; version = version; holders = 1 })

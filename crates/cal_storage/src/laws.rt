@@ -1,10 +1,11 @@
 //! Laws of what calls change in a registry. Each is a theorem about the definitions that the contracts of the calls cite, and
 //! its function does nothing. `Change` lists the changes, and a run is any list of them that calls can make in turn.
 
-ghost use Rattle.std.specs.Prelude.{◌≡◌, ◌≢◌, ℕ, List, Some, None};
+ghost use Rattle.std.specs.Prelude.{◌≡◌, ℕ, ◌<◌, List, [], Some};
 ghost use Rattle.cal_storage.specs.Changes.{Change, after, after_all, IsAllowed, IsRun, Spares};
 ghost use Rattle.cal_storage.specs.Contents.{Contents, Handle, Has, entry_of, nothing_registered, created, opened, removed, closed, finished, withdrawn, with_value, version_set};
 ghost use Rattle.cal_storage.specs.ContentsLaws.{IsLater, MakesEntry, ChangesEntry, ChangesNamedEntry, TakesName, LetsGo, Withdraws, one_holder_more};
+ghost use Rattle.cal_storage.specs.OpenHandles.{ServesHandles, IsRunOfHandles, open_on, open_after_all};
 ghost use Rattle.cal_storage.specs.Soundness.{IsSound};
 ghost use Rattle.cal_storage.specs.declared.entry.Entry.{Entry};
 
@@ -61,4 +62,13 @@ pub fn an_id_is_never_used_again<T>()
 /// another handle on it may close while more than one holds it, and it isn't withdrawn.
 pub fn a_held_entry_stays<T>()
     ensures { (old : Contents T) (change : Change T) (handle : Handle) → IsSound old → IsAllowed old change → Has old handle → Spares old change handle.id → Has (after old change) handle }
+{}
+
+/// A registry has the entry of each open handle, whatever calls come between: over any run that begins with a new registry each
+/// entry counts a holder for each handle on it at least, up to the greatest number, and what a handle has it still has while a
+/// handle on the same entry is open. Only a withdrawal takes the entry from all handles on it.
+pub fn an_open_handle_has_its_entry<T>()
+    ensures new { ServesHandles {T = T} nothing_registered [] }
+    ensures kept { (old : Contents T) (open_handles : List ℕ) (changes : List (Change T)) → IsSound old → ServesHandles old open_handles → IsRunOfHandles old open_handles changes → ServesHandles (after_all old changes) (open_after_all old open_handles changes) }
+    ensures has { (old : Contents T) (open_handles : List ℕ) (changes : List (Change T)) (handle : Handle) → IsSound old → ServesHandles old open_handles → IsRunOfHandles old open_handles changes → Has old handle → 0 < open_on (open_after_all old open_handles changes) handle.id → Has (after_all old changes) handle }
 {}
