@@ -2,7 +2,7 @@
 use Rattle.std.specs.Prelude.{ℕ, ◌-◌, ◌^◌, true, false, codes, List, [], ◌∷◌}
 use Rattle.cal_storage.specs.declared.entry.Entry.{Entry}
 use Rattle.cal_storage.specs.declared.entry.Slot.TheVariants.{Kept}
-use Rattle.cal_storage.specs.Changes.{Change, creates, opens, removes, after_all}
+use Rattle.cal_storage.specs.Changes.{Change, creates, opens, removes, closes, after_all}
 use Rattle.cal_storage.specs.Contents.{Contents, Handle, nothing_registered}
 
 abbrev pub some_path : List ℕ
@@ -42,6 +42,10 @@ begun = creates some_path 444 0 ∷ []
 -- one begins an entry, its name is removed, and another makes an entry under it
 abbrev pub begun_and_made_anew : List (Change ℕ)
 begun_and_made_anew = creates some_path 444 0 ∷ removes some_path ∷ creates some_path 873 whole ∷ []
+
+-- one makes an entry, another opens it, the first gives up its ownership, and both close
+abbrev pub closed_by_guests : List (Change ℕ)
+closed_by_guests = creates some_path 873 whole ∷ opens 0 ∷ closes guest ∷ closes guest ∷ []
 
 -- an entry with no name, whose count of holders has reached the greatest number
 abbrev pub full : Contents ℕ

@@ -4,7 +4,7 @@
 ghost use Rattle.std.specs.Prelude.{◌≡◌, ◌-◌, ◌^◌, ◌++◌, [], ◌∷◌, Some, None};
 ghost use Rattle.cal_storage.specs.Changes.{closes, withdraws};
 ghost use Rattle.cal_storage.specs.Contents.{opened, closed, entry_of, id_at};
-ghost use Rattle.cal_storage.specs.Examples.{some_path, owner, guest, number, after_run, made_anew, held_by_two, begun, begun_and_made_anew, full};
+ghost use Rattle.cal_storage.specs.Examples.{some_path, owner, guest, number, after_run, made_anew, held_by_two, closed_by_guests, begun, begun_and_made_anew, full};
 
 /// An owner whose name was removed and made anew by another closes: its own entry has ended, and the other's name and entry
 /// stay.
@@ -19,6 +19,14 @@ pub fn an_entry_ends_with_its_last_holder()
     ensures two { entry_of (after_run held_by_two) 0 ≡ Some (number 444 2) }
     ensures one { entry_of (after_run (held_by_two ++ closes guest ∷ [])) 0 ≡ Some (number 444 1) }
     ensures none { entry_of (after_run (held_by_two ++ closes guest ∷ closes owner ∷ [])) 0 ≡ None }
+{}
+
+/// An entry whose holders have all closed, none of them as its owner, stays under its name. Its count of holders doesn't fall
+/// below 0.
+pub fn an_entry_stays_under_its_name()
+    ensures name { id_at (after_run closed_by_guests) some_path ≡ Some 0 }
+    ensures entry { entry_of (after_run closed_by_guests) 0 ≡ Some (number 873 0) }
+    ensures once_more { entry_of (after_run (closed_by_guests ++ closes guest ∷ [])) 0 ≡ Some (number 873 0) }
 {}
 
 /// A count of holders that has reached the greatest number neither rises at an opening nor falls at a close.
