@@ -27,6 +27,10 @@ number value holders = record { path = some_path; value = value; version = whole
 abbrev pub after_run : List (Change ℕ) → Contents ℕ
 after_run changes = after_all nothing_registered changes
 
+-- one makes an entry
+abbrev pub made : List (Change ℕ)
+made = creates some_path 444 whole ∷ []
+
 -- one makes an entry, its name is removed, and another makes an entry under it
 abbrev pub made_anew : List (Change ℕ)
 made_anew = creates some_path 444 whole ∷ removes some_path ∷ creates some_path 873 whole ∷ []

@@ -2,9 +2,9 @@
 //! computed.
 
 ghost use Rattle.std.specs.Prelude.{◌≡◌, ◌-◌, ◌^◌, ◌++◌, [], ◌∷◌, Some, None};
-ghost use Rattle.cal_storage.specs.Changes.{closes, withdraws};
+ghost use Rattle.cal_storage.specs.Changes.{opens, closes, withdraws};
 ghost use Rattle.cal_storage.specs.Contents.{opened, closed, entry_of, id_at};
-ghost use Rattle.cal_storage.specs.Examples.{some_path, owner, guest, number, after_run, made_anew, held_by_two, closed_by_guests, begun, begun_and_made_anew, full};
+ghost use Rattle.cal_storage.specs.Examples.{some_path, owner, guest, number, after_run, made, made_anew, held_by_two, closed_by_guests, begun, begun_and_made_anew, full};
 
 /// An owner whose name was removed and made anew by another closes: its own entry has ended, and the other's name and entry
 /// stay.
@@ -12,6 +12,14 @@ pub fn a_name_that_was_made_anew_stays_at_a_close()
     ensures name { id_at (after_run (made_anew ++ closes owner ∷ [])) some_path ≡ Some 1 }
     ensures own { entry_of (after_run (made_anew ++ closes owner ∷ [])) 0 ≡ None }
     ensures other { entry_of (after_run (made_anew ++ closes owner ∷ [])) 1 ≡ Some (number 873 1) }
+{}
+
+/// An owner that closes takes its name with it. Its entry has ended where nobody else holds it, and else stays.
+pub fn an_owner_takes_its_name_with_it()
+    ensures name { id_at (after_run (made ++ closes owner ∷ [])) some_path ≡ None }
+    ensures alone { entry_of (after_run (made ++ closes owner ∷ [])) 0 ≡ None }
+    ensures shared_name { id_at (after_run (made ++ opens 0 ∷ closes owner ∷ [])) some_path ≡ None }
+    ensures shared { entry_of (after_run (made ++ opens 0 ∷ closes owner ∷ [])) 0 ≡ Some (number 444 1) }
 {}
 
 /// An entry that two hold and whose name was removed stays at the first close, and has ended after the second.
