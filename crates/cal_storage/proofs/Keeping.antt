@@ -89,6 +89,28 @@ module _ {T : Type 0} where
     pub entry_of-with_slot-same : (slot_of contents id ≡ Ended → slot ≡ Ended) → entry_of (with_slot contents id slot) id ≡ kept slot
     entry_of-with_slot-same none = ap kept (slot_of-with_slot-same none)
 
+  -- ---- what a new entry leaves
+
+  module _ (contents : Contents T) where
+    pub id_at-created-same : (path : List ℕ) (value : T) (version : ℕ) → id_at (created contents path value version) path ≡ Some (length contents.slots)
+    id_at-created-same path value version = lookup-insert_entry-same path (length contents.slots) contents.names
+
+    pub id_at-created-other : (path : List ℕ) (value : T) (version : ℕ) (other : List ℕ) → is_path path other ≡ false → id_at (created contents path value version) other ≡ id_at contents other
+    id_at-created-other path value version other apart = lookup-insert_entry-other path (length contents.slots) contents.names other apart
+
+    pub slot_of-created-other : (path : List ℕ) (value : T) (version other : ℕ) → (other ≡ length contents.slots → ⊥) → slot_of (created contents path value version) other ≡ slot_of contents other
+    slot_of-created-other path value version other apart =
+        let entry : Slot T = Kept (record { path = path; value = value; version = version; holders = 1 }) in
+        elim (cases_lt other (length contents.slots)) [
+          | inl within ↦ get_or_append_left contents.slots (entry ∷ []) Ended other within
+          | inr past ↦
+              get_or_past (contents.slots ++ entry ∷ []) other Ended (omega (arith, length_push contents.slots entry))
+              ∙ sym (get_or_past contents.slots other Ended past)
+        ]
+
+    pub slot_of-created-same : (path : List ℕ) (value : T) (version : ℕ) → slot_of (created contents path value version) (length contents.slots) ≡ Kept (record { path = path; value = value; version = version; holders = 1 })
+    slot_of-created-same path value version = get_or_push contents.slots (Kept (record { path = path; value = value; version = version; holders = 1 })) Ended (length contents.slots) refl
+
   -- ---- a registry that differs from a sound one at one id
 
   module _ {old : Contents T} (sound : IsSound old) (new : Contents T) (id : ℕ) where
@@ -165,25 +187,6 @@ module _ {T : Type 0} where
 
     -- ---- a new entry
 
-    id_at-created-same : (path : List ℕ) (value : T) (version : ℕ) → id_at (created contents path value version) path ≡ Some (length contents.slots)
-    id_at-created-same path value version = lookup-insert_entry-same path (length contents.slots) contents.names
-
-    id_at-created-other : (path : List ℕ) (value : T) (version : ℕ) (other : List ℕ) → is_path path other ≡ false → id_at (created contents path value version) other ≡ id_at contents other
-    id_at-created-other path value version other apart = lookup-insert_entry-other path (length contents.slots) contents.names other apart
-
-    slot_of-created-other : (path : List ℕ) (value : T) (version other : ℕ) → (other ≡ length contents.slots → ⊥) → slot_of (created contents path value version) other ≡ slot_of contents other
-    slot_of-created-other path value version other apart =
-        let entry : Slot T = Kept (record { path = path; value = value; version = version; holders = 1 }) in
-        elim (cases_lt other (length contents.slots)) [
-          | inl within ↦ get_or_append_left contents.slots (entry ∷ []) Ended other within
-          | inr past ↦
-              get_or_past (contents.slots ++ entry ∷ []) other Ended (omega (arith, length_push contents.slots entry))
-              ∙ sym (get_or_past contents.slots other Ended past)
-        ]
-
-    slot_of-created-same : (path : List ℕ) (value : T) (version : ℕ) → slot_of (created contents path value version) (length contents.slots) ≡ Kept (record { path = path; value = value; version = version; holders = 1 })
-    slot_of-created-same path value version = get_or_push contents.slots (Kept (record { path = path; value = value; version = version; holders = 1 })) Ended (length contents.slots) refl
-
     -- no name stands for an id that was never made
     pub not_named_yet : (path : List ℕ) → id_at contents path ≡ Some (length contents.slots) → ⊥
     not_named_yet path at =
@@ -195,23 +198,23 @@ module _ {T : Type 0} where
         let new : Contents T = created contents path value version in
         let id : ℕ = length contents.slots in
         let entry : Entry T = record { path = path; value = value; version = version; holders = 1 } in
-        let here : entry_of new id ≡ Some entry = ap kept (slot_of-created-same path value version) in
+        let here : entry_of new id ≡ Some entry = ap kept (slot_of-created-same contents path value version) in
         changed_at-IsSound sound new id
         (sorted-insert_entry path id contents.names sound.ordered)
         (all_keys-insert_entry IsFilePath path id contents.names is_file_path sound.paths)
-        (λ other apart. ap kept (slot_of-created-other path value version other apart))
+        (λ other apart. ap kept (slot_of-created-other contents path value version other apart))
         (λ other q apart. elim (cases_path path q) [
           | inl same ↦
-              let now : id_at new q ≡ Some id = subst (λ r. id_at new r ≡ Some id) same (id_at-created-same path value version) in
+              let now : id_at new q ≡ Some id = subst (λ r. id_at new r ≡ Some id) same (id_at-created-same contents path value version) in
               let before : id_at contents q ≡ None = subst (λ r. id_at contents r ≡ None) same free in
               (λ at. absurd (apart (same_Some other id (sym at ∙ now))), λ at. absurd (none-some other (sym before ∙ at)))
           | inr differs ↦
-              let still : id_at new q ≡ id_at contents q = id_at-created-other path value version q differs in
+              let still : id_at new q ≡ id_at contents q = id_at-created-other contents path value version q differs in
               (λ at. sym still ∙ at, λ at. still ∙ at)
         ])
         (λ q at. subst (λ o. IsSomeAnd o (λ e. e.path ≡ q)) (sym here) (elim (cases_path path q) [
           | inl same ↦ same
-          | inr differs ↦ absurd (not_named_yet q (sym (id_at-created-other path value version q differs) ∙ at))
+          | inr differs ↦ absurd (not_named_yet q (sym (id_at-created-other contents path value version q differs) ∙ at))
         ]))
         (λ e is. inl (subst (λ (x : Entry T). 0 < x.holders) (same_Some entry e (sym here ∙ is)) (omega arith)))
 
@@ -235,13 +238,14 @@ module _ {T : Type 0} where
 
     -- ---- an id that loses its name, or has none
 
-    module _ (path : List ℕ) (id : ℕ) (at : id_at contents path ≡ Some id) where
-      id_at-gone : (other : List ℕ) → path ≡ other → id_at (without_name contents path) other ≡ None
+    module _ (path : List ℕ) where
+      pub id_at-gone : (other : List ℕ) → path ≡ other → id_at (without_name contents path) other ≡ None
       id_at-gone other same = subst (λ q. id_at (without_name contents path) q ≡ None) same (lookup-remove_entry-same path contents.names sound.ordered)
 
-      id_at-kept : (other : List ℕ) → is_path path other ≡ false → id_at (without_name contents path) other ≡ id_at contents other
+      pub id_at-kept : (other : List ℕ) → is_path path other ≡ false → id_at (without_name contents path) other ≡ id_at contents other
       id_at-kept other apart = lookup-remove_entry-other path contents.names sound.ordered other apart
 
+    module _ (path : List ℕ) (id : ℕ) (at : id_at contents path ≡ Some id) where
       name_gone-IsSound : (slot : Slot T) → (slot_of contents id ≡ Ended → slot ≡ Ended) → ((entry : Entry T) → kept slot ≡ Some entry → 0 < entry.holders) → IsSound (with_slot (without_name contents path) id slot)
       name_gone-IsSound slot none held =
           let new : Contents T = with_slot (without_name contents path) id slot in
@@ -252,15 +256,15 @@ module _ {T : Type 0} where
           (entry_of-with_slot-other contents id slot)
           (λ other q apart. elim (cases_path path q) [
             | inl same ↦ (
-              λ now. absurd (none-some other (sym (id_at-gone q same) ∙ now)),
+              λ now. absurd (none-some other (sym (id_at-gone path q same) ∙ now)),
               λ before. absurd (apart (same_Some other id (sym before ∙ ap (id_at contents) (sym same) ∙ at))),
             )
-            | inr differs ↦ (λ now. sym (id_at-kept q differs) ∙ now, λ before. id_at-kept q differs ∙ before)
+            | inr differs ↦ (λ now. sym (id_at-kept path q differs) ∙ now, λ before. id_at-kept path q differs ∙ before)
           ])
           (λ q now. elim (cases_path path q) [
-            | inl same ↦ absurd (none-some id (sym (id_at-gone q same) ∙ now))
+            | inl same ↦ absurd (none-some id (sym (id_at-gone path q same) ∙ now))
             | inr differs ↦
-                let same : path ≡ q = one_path id path q at (sym (id_at-kept q differs) ∙ now) in
+                let same : path ≡ q = one_path id path q at (sym (id_at-kept path q differs) ∙ now) in
                 absurd (true≢false (sym (is_path-same path) ∙ ap (is_path path) same ∙ differs))
           ])
           (λ entry is. inl (held entry (sym here ∙ is)))

@@ -1,7 +1,11 @@
 pub mod ChangeParts
 pub mod Entering
+pub mod EntryLaws
+pub mod HandleLaws
 pub mod Keeping
+pub mod LaterLaws
 pub mod NameLists
 pub mod Naming
+pub mod OpenLaws
 pub mod Refusing
 pub mod Within

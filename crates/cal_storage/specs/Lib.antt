@@ -1,7 +1,11 @@
+pub mod Changes
 pub mod Contents
+pub mod ContentsLaws
+pub mod Examples
 pub mod Finishing
 pub mod Initializer
 pub mod Managing
+pub mod OpenHandles
 pub mod Refusals
 pub mod RegistryCalls
 pub mod RegistryLends
