@@ -1,13 +1,24 @@
 -- The changes as the code makes them: the names and the slots each on their own.
-use Rattle.std.proofs.Common.{◌≡◌, ℕ, Bool, true, false, not, ◌&&◌, Option, Some, None, List, if◌then◌else◌, slice_set, refl, sym, ap, subst, ◌∙◌}
+use Rattle.std.proofs.Common.{◌≡◌, ℕ, ◌≤◌, length, Bool, true, false, not, ◌&&◌, Option, Some, None, List, if◌then◌else◌, slice_set, refl, sym, ap, subst, ◌∙◌}
+use Rattle.std.proofs.lemmas.Bool.{le-ltb}
 use Rattle.std.specs.Map.{remove_entry}
 use Rattle.cal_storage.specs.declared.entry.Slot.{Slot}
 use Rattle.cal_storage.specs.declared.entry.Slot.TheVariants.{Ended}
-use Rattle.cal_storage.specs.Contents.{Contents, Handle, Has, is_path, id_at, slot_of, left_of, let_go, with_slot, without_name, name_taken, is_named, disowned, closed, withdrawn}
+use Rattle.cal_storage.specs.Contents.{Contents, Handle, Has, is_path, id_at, slot_of, left_of, let_go, with_slot, without_name, name_taken, removed, is_named, disowned, closed, withdrawn}
+use Rattle.cal_names.specs.Settings.{Settings, file_name_for, file_path_for}
+use Rattle.cal_storage.specs.Refusals.{name_removed}
 use Rattle.cal_storage.specs.Soundness.{IsSound}
 use Rattle.cal_storage.proofs.Keeping.{removed-IsSound, closed-IsSound, withdrawn-IsSound}
 
 module _ {T : Type 0} (contents : Contents T) where
+  -- a removal under a name whose path fits, by the id that was found there
+  pub name_removed-is : (settings : Settings) (name path : List ℕ) → length (file_name_for settings name) ≤ 255 → path ≡ file_path_for settings name
+      → (found : Option ℕ) → id_at contents path ≡ found → name_taken contents path found ≡ name_removed contents settings name
+  name_removed-is settings name path fits is_path_for found at =
+      sym (ap (λ long. if long then contents else removed contents (file_path_for settings name)) (le-ltb 255 (length (file_name_for settings name)) fits)
+      ∙ ap (removed contents) (sym is_path_for)
+      ∙ ap (name_taken contents path) at)
+
   pub removed_at : IsSound contents → (path : List ℕ) (id : ℕ) → id_at contents path ≡ Some id → IsSound (with_slot (without_name contents path) id (left_of false (slot_of contents id)))
   removed_at sound path id at = subst (λ found. IsSound (name_taken contents path found)) at (removed-IsSound contents sound path)
 
