@@ -42,10 +42,10 @@ module _ {T : Type 0} (contents : Contents T) where
         }
     closed-is named is =
         subst (λ b. with_slot (if handle.is_owner then (if b then without_name contents handle.path else contents) else contents) handle.id (left_of (b && not handle.is_owner) (let_go (slot_of contents handle.id)))
-          ≡ record {
-            names = names_left handle.path (named && handle.is_owner);
-            slots = slice_set contents.slots handle.id (left_of (named && not handle.is_owner) (let_go (slot_of contents handle.id)));
-          })
+        ≡ record {
+          names = names_left handle.path (named && handle.is_owner);
+          slots = slice_set contents.slots handle.id (left_of (named && not handle.is_owner) (let_go (slot_of contents handle.id)));
+        })
         is (closed_parts named handle.is_owner (left_of (named && not handle.is_owner) (let_go (slot_of contents handle.id))))
 
     withdrawn_parts : (named : Bool) → with_slot (if named then without_name contents handle.path else contents) handle.id Ended
@@ -58,5 +58,5 @@ module _ {T : Type 0} (contents : Contents T) where
         withdrawn contents handle ≡ record { names = names_left handle.path named; slots = slice_set contents.slots handle.id Ended }
     withdrawn-is named is =
         subst (λ b. with_slot (if b then without_name contents handle.path else contents) handle.id Ended
-          ≡ record { names = names_left handle.path named; slots = slice_set contents.slots handle.id Ended })
+        ≡ record { names = names_left handle.path named; slots = slice_set contents.slots handle.id Ended })
         is (withdrawn_parts named)

@@ -6,9 +6,11 @@ pub mod Finishing
 pub mod Initializer
 pub mod Managing
 pub mod OpenHandles
+pub mod Plan
 pub mod Refusals
 pub mod RegistryCalls
 pub mod RegistryLends
 pub mod SlotLends
 pub mod SlotsLend
 pub mod Soundness
+pub mod Staged

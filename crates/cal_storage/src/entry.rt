@@ -12,7 +12,6 @@ ghost use Rattle.cal_storage.specs.Finishing.{Finishes};
 use crate::dynamic_storage::DynamicStorageOpenError;
 use crate::initialize::initialize;
 use cal_alloc::BumpAllocator;
-
 use cal_names::FilePath;
 use std::alloc::Global;
 

@@ -253,7 +253,11 @@ impl<T: Drop> Registry<T> {
 
     /// Takes a name away, and answers whether it was there; not where its path would be too long. Its entry stays while
     /// somebody holds it.
-    pub(crate) fn remove<C: NamedConceptConfiguration>(&mut self, name: &FileName, config: &C) -> bool
+    pub(crate) fn remove<C: NamedConceptConfiguration>(
+        &mut self,
+        name: &FileName,
+        config: &C,
+    ) -> bool
         ensures found { result ≡ list_any (goes_with (C.settings config.now) name.now) (keys_of self.old.names) }
         ensures gone { let goes : List ℕ → Bool = goes_with (C.settings config.now) name.now in
             keys_of self.new.names ≡ filter (λ path. not (goes path)) (keys_of self.old.names) }

@@ -1,5 +1,5 @@
 //! The builder of storages of both kinds.
-ghost use Rattle.std.specs.Prelude.{◌≡◌, ◌≤◌, ◌^◌, true, Some};
+ghost use Rattle.std.specs.Prelude.{◌≡◌, true};
 
 use crate::access_mode::AccessMode;
 use crate::dynamic_storage::configuration::Configuration;
@@ -13,41 +13,50 @@ use crate::registry::Registry;
 use cal_alloc::BumpAllocator;
 use cal_names::{FileName, NamedConceptBuilder, NamedConceptConfiguration, NamedType};
 use std::fmt::Debug;
-use std::marker::PhantomData;
-
-/// Room beside a value, for what its initializer takes.
-#[derive(Clone, Copy, Debug)]
-struct Room {
-    bytes: usize,
-    ghost fits: { bytes ≤ 2 ^ 56 },
-}
+use std::marker::{Model, PhantomData};
 
 /// A builder of storages of a type, of one kind.
 #[derive_where(Debug)]
 #[derive(Drop)]
 pub struct Builder<T, K> {
-    name: FileName,
-    config: Configuration<T>,
-    has_ownership: bool,
-    room: Room,
+    pub(crate) name: FileName,
+    pub(crate) config: Configuration<T>,
+    pub(crate) has_ownership: bool,
+    pub(crate) supplementary_size: usize,
     call_drop_on_destruction: bool,
     timeout: usize,
     of: PhantomData<K>,
 }
 
+impl<T, K> Model for Builder<T, K> {
+    ghost use Rattle.std.specs.Prelude.{◌≤◌, ◌^◌, Some};
+    ghost use Rattle.cal_storage.specs.Plan.{Plan};
+
+    ghost Value = { Plan };
+
+    ghost view = { λ b. record {
+      name = b.name;
+      settings = record { prefix = b.config.prefix; type_name = Some b.config.type_name; suffix = b.config.suffix; path_hint = b.config.path_hint };
+      is_owner = b.has_ownership;
+      room = b.supplementary_size;
+    } };
+
+    ghost invariant = { λ b. b.supplementary_size ≤ 2 ^ 56 };
+}
+
 impl<T: NamedType + Debug + Drop, K: Kind> NamedConceptBuilder<Storage<T, K>> for Builder<T, K> {
     ghost concept_name = { λ b. b.name };
 
-    ghost concept_settings = { λ b. record { prefix = b.config.prefix; type_name = Some b.config.type_name; suffix = b.config.suffix; path_hint = b.config.path_hint } };
+    ghost concept_settings = { λ b. b.settings };
 
-    ghost IsDefault = { λ b. (b.has_ownership ≡ true) × (b.room.bytes ≡ 0) };
+    ghost IsDefault = { λ b. (b.is_owner ≡ true) × (b.room ≡ 0) };
 
     fn new(name: &FileName) -> Self {
         Builder {
             name: *name,
             config: Configuration::default(),
             has_ownership: true,
-            room: Room { bytes: 0 },
+            supplementary_size: 0,
             call_drop_on_destruction: true,
             timeout: 0,
             of: PhantomData,
@@ -63,11 +72,10 @@ impl<T: NamedType + Debug + Drop, K: Kind> NamedConceptBuilder<Storage<T, K>> fo
 }
 
 impl<T: NamedType + Debug + Drop, K: Kind> DynamicStorageBuilder<T, Storage<T, K>>
-    for Builder<T, K>
-{
-    ghost is_owner = { λ b. b.has_ownership };
+    for Builder<T, K> {
+    ghost is_owner = { λ b. b.is_owner };
 
-    ghost room = { λ b. b.room.bytes };
+    ghost room = { λ b. b.room };
 
     fn call_drop_on_destruction(self, value: bool) -> Self {
         Builder {
@@ -85,7 +93,7 @@ impl<T: NamedType + Debug + Drop, K: Kind> DynamicStorageBuilder<T, Storage<T, K
 
     fn supplementary_size(self, value: usize) -> Self {
         Builder {
-            room: Room { bytes: value },
+            supplementary_size: value,
             ..self
         }
     }
@@ -106,7 +114,7 @@ impl<T: NamedType + Debug + Drop, K: Kind> DynamicStorageBuilder<T, Storage<T, K
         let Ok(path) = self.config.path_for(&self.name) else {
             return Err(DynamicStorageCreateError::PathTooLong);
         };
-        let id = reg.create(&path, initial_value, self.room.bytes, initializer)?;
+        let id = reg.create(&path, initial_value, self.supplementary_size, initializer)?;
         Ok(Storage {
             name: self.name,
             handle: Handle {
@@ -159,9 +167,7 @@ impl<T: NamedType + Debug + Drop, K: Kind> DynamicStorageBuilder<T, Storage<T, K
         }
         match self.open(reg, AccessMode::ReadWrite) {
             Ok(storage) => Ok(storage),
-            Err(error) => Err(DynamicStorageOpenOrCreateError::DynamicStorageOpenError(
-                error,
-            )),
+            Err(error) => Err(DynamicStorageOpenOrCreateError::DynamicStorageOpenError(error)),
         }
     }
 

@@ -7,9 +7,10 @@ use Rattle.cal_storage.proofs.dynamic_storage.builder.BuilderDynamicStorageBuild
 pub returns-in_err-id-clause-error : goal.returns-in_err-id-clause-error
 returns-in_err-id-clause-error g c =
     let p = err_from_is_err_and c.from_residual.result c.from_residual.ensures.1 in
-    rw (p.1, p.2)
+    let config = c.self.inside.config in
+    rw (p.1, p.2, ← c.self.view_is)
     (cause_of_error c.args.reg.now
-    (record { prefix = c.args.self.config.prefix; type_name = Some c.args.self.config.type_name; suffix = c.args.self.config.suffix; path_hint = c.args.self.config.path_hint })
-    c.args.self.name (c.in-Ok.ensures.fits.0 refl) c.in_err-id.field-0.0
+    (record { prefix = config.prefix; type_name = Some config.type_name; suffix = config.suffix; path_hint = config.path_hint })
+    c.self.inside.name (c.in-Ok.ensures.fits.0 refl) c.in_err-id.field-0.0
     (λ same. subst (λ path. IsSome (id_at c.args.reg.now path)) c.in-Ok.ensures.path (c.in_err-id.ensures.exists.0 (ap (λ error. Err error) same)))
     c.in_err-id.ensures.error)
