@@ -7,5 +7,7 @@ mod bounded_queue;
 pub mod fixed_size_used_chunk_list;
 pub mod index_queue;
 mod marks;
+pub mod reserve_refusal;
 pub mod safely_overflowing_index_queue;
+pub mod state_table;
 pub mod used_chunk_list;
