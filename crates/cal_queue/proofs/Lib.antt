@@ -1,1 +1,4 @@
 pub mod Members
+pub mod OneSideEach
+pub mod Schedules
+pub mod SidedTables

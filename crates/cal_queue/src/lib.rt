@@ -8,4 +8,5 @@ pub mod fixed_size_used_chunk_list;
 pub mod index_queue;
 mod marks;
 pub mod safely_overflowing_index_queue;
+mod sided;
 pub mod used_chunk_list;
