@@ -2,3 +2,4 @@ pub mod Members
 pub mod OneSideEach
 pub mod Schedules
 pub mod SidedTables
+pub mod SubmissionKeeps

@@ -9,4 +9,5 @@ pub mod index_queue;
 mod marks;
 pub mod safely_overflowing_index_queue;
 mod sided;
+pub mod submission_ring;
 pub mod used_chunk_list;
