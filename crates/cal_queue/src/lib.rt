@@ -9,5 +9,7 @@ pub mod index_queue;
 mod marks;
 pub mod reserve_refusal;
 pub mod safely_overflowing_index_queue;
+mod sided;
 pub mod state_table;
+pub mod submission_ring;
 pub mod used_chunk_list;

@@ -1,0 +1,30 @@
+//! The rule that every step of either end keeps.
+
+use super::pass::{SendPass, TakePass};
+use crate::sided::Sided;
+use atomic_table::{Join, TableRule};
+
+pub(crate) type RingView = Sided<SendPass, TakePass>;
+
+// The key is how many values the ring keeps between two calls.
+pub(crate) struct SubmissionRule;
+
+impl TableRule<(), RingView, u64> for SubmissionRule {
+    ghost use Rattle.cal_queue.specs.SubmissionRule.{HoldsOfRing, new_view};
+
+    ghost holds = { HoldsOfRing };
+
+    ghost first = { new_view };
+}
+
+// The sending end takes the other one in.
+pub(crate) struct Meeting;
+
+impl Join<RingView> for Meeting {
+    ghost use Rattle.cal_queue.specs.Sides.{joined};
+    ghost use Rattle.cal_queue.specs.SubmissionRule.{spent_view};
+
+    ghost both = { joined };
+
+    ghost spent = { spent_view };
+}
