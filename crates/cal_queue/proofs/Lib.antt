@@ -1,3 +1,5 @@
+pub mod CompletionAllowed
+pub mod CompletionKeeps
 pub mod Members
 pub mod OneSideEach
 pub mod Schedules

@@ -4,9 +4,12 @@
 #![tactic(auto)]
 
 mod bounded_queue;
+pub mod completion_ring;
 pub mod fixed_size_used_chunk_list;
 pub mod index_queue;
 mod marks;
+mod positions;
+pub mod push_refusal;
 pub mod reserve_refusal;
 pub mod safely_overflowing_index_queue;
 mod sided;
