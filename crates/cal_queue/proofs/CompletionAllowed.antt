@@ -1,21 +1,19 @@
 -- The table of a completion ring allows each step of either end.
-use Rattle.std.proofs.Common.{◌≡◌, ℕ, ◌+◌, ◌-◌, ◌^◌, ◌<◌, ◌≤◌, true, false, eqb, List, [], ◌∷◌, ◌++◌, length, get_or, replicate, set, take, Option, Some, None, refl, sym, ap, ◌∙◌, subst, arith, length-append}
+use Rattle.std.proofs.Common.{◌≡◌, ℕ, ◌+◌, ◌-◌, ◌^◌, ◌<◌, ◌≤◌, true, List, [], ◌∷◌, ◌++◌, length, get_or, replicate, set, Option, Some, None, refl, sym, ap, ◌∙◌, subst, arith, length-append}
 use Rattle.std.proofs.lemmas.List.{get_or-replicate, length-replicate, set-get_or}
 use Rattle.std.specs.Option.{option_to_list}
 use mathlib.Core.Option.{none}
 use Rattle.atomic_table.specs.Table.{Allows, opening, step}
-use Rattle.cal_queue.specs.Channel.{Bounds, Channel, Event, MayHappen, after, releases, reclaims}
+use Rattle.cal_queue.specs.Channel.{releases, reclaims}
 use Rattle.cal_queue.specs.CompletionPass.{loaded_read, loaded_slot, loaded_write, new_get_pass, new_put_pass, stored_read, stored_slot, stored_write}
-use Rattle.cal_queue.specs.CompletionRule.{Fits, HoldsOfRing, IsCompleted, ShowsChannel, new_view, slot_of, spent_view}
-use Rattle.cal_queue.specs.CompletionSteps.{End, IsSettled, LoadsRead, LoadsSlot, LoadsWrite, Settles, StoresRead, StoresSlot, StoresWrite}
-use Rattle.cal_queue.specs.Sides.{HasTwoSides, joined, with_reader, with_writer}
+use Rattle.cal_queue.specs.CompletionRule.{Fits, HoldsOfRing, IsCompleted, ShowsChannel, new_view, slot_of}
+use Rattle.cal_queue.specs.CompletionSteps.{End, LoadsRead, LoadsSlot, LoadsWrite, Settles, StoresRead, StoresSlot, StoresWrite}
 use Rattle.cal_queue.specs.declared.completion_ring.pass.PutPass.{PutPass}
 use Rattle.cal_queue.specs.declared.completion_ring.pass.GetPass.{GetPass}
-use Rattle.cal_queue.specs.declared.sided.Sided.{Sided}
 use Rattle.cal_queue.proofs.CompletionKeeps.{getter_loads, getter_loads_slot, getter_stores_read, got_below, new_ring_fits, putter_loads, putter_stores_slot, putter_stores_write}
 use Rattle.cal_queue.proofs.OneSideEach.{opens}
 use Rattle.cal_queue.proofs.Schedules.{IsReached-more}
-use Rattle.cal_queue.proofs.SidedTables.{look_allowed, reader_allowed, sides_join, sides_split, writer_allowed}
+use Rattle.cal_queue.proofs.SidedTables.{look_allowed, reader_allowed, writer_allowed}
 
 abbrev Sound : ℕ → List ℕ → PutPass → GetPass → Type 0
 Sound = ShowsChannel

@@ -3,7 +3,7 @@
 use Rattle.std.proofs.Common.{◌≡◌, ◌≢◌, ℕ, ◌+◌, ◌-◌, ◌%◌, ◌^◌, ◌<◌, ◌≤◌, List, [], ◌∷◌, ◌++◌, length, get_or, set, take, Option, Some, None, refl, sym, ap, ◌∙◌, subst, ⊎_elim, arith, length-append}
 use Rattle.std.proofs.lemmas.Bool.{cases_lt}
 use Rattle.std.proofs.lemmas.Nat.{mod_below}
-use Rattle.std.proofs.lemmas.List.{length-set, get_or-set_same, get_or-set_other, get_or_append_left, get_or_at, take-append-le, take_more, append-nil}
+use Rattle.std.proofs.lemmas.List.{length-set, get_or-set_same, get_or-set_other, get_or_append_left, get_or_at, take-append-le, take_more}
 use Rattle.std.specs.Option.{option_to_list}
 use Rattle.atomic_table.proofs.Lists.{one_turn}
 use Rattle.cal_queue.specs.CompletionPass.{loaded_read, loaded_slot, loaded_write, new_get_pass, new_put_pass, stored_read, stored_slot, stored_write}
@@ -137,9 +137,9 @@ module _ (capacity : ℕ) (words : List ℕ) (putter : PutPass) (getter : GetPas
         let long = one_more in
         get_or-set_other words 1 (slot_of capacity p) (length putter.put + 1) 0 n
         ∙ ⊎_elim (λ old. W.waiting_in_slots p from old ∙ sym (grown-before p old))
-            (λ past. let last : p ≡ length putter.put = omega arith in
-                ap (λ (k : ℕ). get_or words (slot_of capacity k) 0) last ∙ X.to_put_in_slot value pending ∙ sym grown-last ∙ ap (λ (k : ℕ). get_or grown k 0) (sym last))
-            (cases_lt p (length putter.put))
+        (λ past. let last : p ≡ length putter.put = omega arith in
+        ap (λ (k : ℕ). get_or words (slot_of capacity k) 0) last ∙ X.to_put_in_slot value pending ∙ sym grown-last ∙ ap (λ (k : ℕ). get_or grown k 0) (sym last))
+        (cases_lt p (length putter.put))
 
     published_fits : Fits capacity published (record putter { put = grown; to_put = None }) getter
     published_fits = let size = W.sized in

@@ -1,5 +1,6 @@
 pub mod CompletionAllowed
 pub mod CompletionKeeps
+pub mod CompletionSchedules
 pub mod Members
 pub mod OneSideEach
 pub mod Schedules

@@ -1,5 +1,5 @@
 -- What each step of the completion ring does to the pass of the end that makes it.
-use Rattle.std.specs.Prelude.{ℕ, ◌+◌, List, [], ◌∷◌, ◌++◌, Some, None}
+use Rattle.std.specs.Prelude.{ℕ, ◌+◌, [], ◌++◌, Some, None}
 use Rattle.std.specs.Option.{option_to_list}
 use Rattle.cal_queue.specs.declared.completion_ring.pass.PutPass.{PutPass}
 use Rattle.cal_queue.specs.declared.completion_ring.pass.GetPass.{GetPass}

@@ -1,7 +1,7 @@
 -- Which channel the words of a completion ring show, beside the passes of its two ends.
-use Rattle.std.specs.Prelude.{◌≡◌, ℕ, ◌+◌, ◌-◌, ◌%◌, ◌^◌, ◌<◌, ◌≤◌, List, [], length, slice_index, take, Option, Some, None}
+use Rattle.std.specs.Prelude.{◌≡◌, ℕ, ◌+◌, ◌-◌, ◌%◌, ◌^◌, ◌<◌, ◌≤◌, List, [], length, slice_index, take, Some}
 use Rattle.atomic_table.specs.Table.{State}
-use Rattle.cal_queue.specs.Channel.{Channel, Bounds, IsReached}
+use Rattle.cal_queue.specs.Channel.{Channel, IsReached}
 use Rattle.cal_queue.specs.CompletionPass.{new_get_pass, new_put_pass}
 use Rattle.cal_queue.specs.Sides.{HasTwoSides, both_sides, spent}
 use Rattle.cal_queue.specs.declared.completion_ring.pass.PutPass.{PutPass}

@@ -1,6 +1,6 @@
 -- What each step on the table of a completion ring tells the end that makes it: its own new pass, and of the other end no
 -- more than that a position is at most, or at least, some number.
-use Rattle.std.specs.Prelude.{◌≡◌, ℕ, ◌+◌, ◌≤◌, List, length, take}
+use Rattle.std.specs.Prelude.{◌≡◌, ℕ, ◌+◌, ◌≤◌, length, take}
 use Rattle.atomic_table.specs.Table.{Me, Step}
 use Rattle.cal_queue.specs.CompletionPass.{loaded_read, loaded_slot, loaded_write, stored_read, stored_slot, stored_write}
 use Rattle.cal_queue.specs.CompletionRule.{IsCompleted}

@@ -9,6 +9,7 @@ ghost use Rattle.cal_queue.specs.CompletionPass.{new_get_pass, new_put_pass};
 mod get_seat;
 mod get_steps;
 mod getting;
+mod law;
 mod meeting;
 mod pass;
 mod plays;
@@ -19,11 +20,11 @@ mod rest;
 mod rule;
 
 pub use get_seat::GetSeat;
+pub use law::completion_ring_law;
+use meeting::part;
 pub use pass::{GetPass, PutPass};
 pub use put_seat::PutSeat;
 pub use rest::{CompletionRest, rest_completion};
-
-use meeting::part;
 use rule::RingTable;
 use std::alloc::{AllocError, Global};
 use std::sync::Arc;
@@ -61,5 +62,40 @@ impl CompletionRing {
             read: 0,
         };
         Ok((put, get))
+    }
+}
+
+#[cfg(test)]
+mod tests {
+    use super::*;
+    use crate::push_refusal::PushRefusal;
+    use std::test::Fail;
+
+    #[test]
+    fn a_full_ring_refuses_a_value(rt: HostRuntime) -> Result<(), Fail> {
+        let (mut put, mut get) = CompletionRing::new(rt.alloc(), 1)?;
+        assert_eq!(rt; put.push(7), Ok(()));
+        assert_eq!(rt; put.push(8), Err(PushRefusal::Full));
+        assert_eq!(rt; get.pop(), Some(7));
+        assert_eq!(rt; get.pop(), None);
+        let rest = rest_completion(put, get);
+        assert_eq!(rt; (rest.put, rest.got, rest.left), (1, 1, 0));
+        Ok(())
+    }
+
+    #[test]
+    fn the_oldest_value_comes_first(rt: HostRuntime) -> Result<(), Fail> {
+        let (mut put, mut get) = CompletionRing::new(rt.alloc(), 3)?;
+        assert_eq!(rt; put.push(1), Ok(()));
+        assert_eq!(rt; put.push(2), Ok(()));
+        assert_eq!(rt; get.pop(), Some(1));
+        assert_eq!(rt; put.push(3), Ok(()));
+        assert_eq!(rt; put.push(4), Ok(()));
+        assert_eq!(rt; put.push(5), Err(PushRefusal::Full));
+        assert_eq!(rt; get.pop(), Some(2));
+        assert_eq!(rt; get.pop(), Some(3));
+        let rest = rest_completion(put, get);
+        assert_eq!(rt; (rest.put, rest.got, rest.left), (4, 3, 1));
+        Ok(())
     }
 }

@@ -1,5 +1,5 @@
 //! The call of the getting end: two loads and a store, which take no memory and wait for nobody.
-ghost use Rattle.std.specs.Prelude.{◌≡◌, ◌+◌, ◌<◌, ◌≤◌, length, IfSome, IfNone};
+ghost use Rattle.std.specs.Prelude.{◌≡◌, ◌+◌, ◌-◌, ◌^◌, ◌<◌, ◌≤◌, length, IfSome, IfNone};
 
 use super::get_seat::GetSeat;
 use super::get_steps::{load_write, take};
@@ -18,9 +18,9 @@ impl GetSeat {
     }
 
     // Gets the oldest value where the last look showed that one waits.
-    fn get(&mut self, written: u64) -> u64
-        requires seen { written ≡ (get_pass self.old).seen_write }
-        requires waits { length (get_pass self.old).got < written }
+    fn get(&mut self) -> u64
+        requires waits { length (get_pass self.old).got < (get_pass self.old).seen_write }
+        requires counts { length (get_pass self.old).got < 2 ^ 64 - 1 }
         ensures same_end { SameGetEnd self.old self.new }
         ensures got { get_pass self.new ≡ stored_read (loaded_slot result (get_pass self.old)) }
     {
@@ -40,6 +40,6 @@ impl GetSeat {
         if written == self.read {
             return None;
         }
-        Some(self.get(written))
+        Some(self.get())
     }
 }

@@ -24,8 +24,17 @@ pub fn rest_completion(put: PutSeat, get: GetSeat) -> CompletionRest
     ensures got_first { (get_pass get).got ≡ take result.got (put_pass put).put }
     ensures completed { IsCompleted (put_pass put).capacity (put_pass put).put result.got }
 {
-    let PutSeat { table, mut seat, written, .. } = put;
-    let GetSeat { seat: other, read, .. } = get;
+    let PutSeat {
+        table,
+        mut seat,
+        written,
+        ..
+    } = put;
+    let GetSeat {
+        seat: other,
+        read,
+        ..
+    } = get;
     meet(&table, &mut seat, other);
     CompletionRest {
         put: written as usize,
