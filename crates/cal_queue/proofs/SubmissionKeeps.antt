@@ -160,9 +160,9 @@ module _ (buffer : ℕ) (words : List ℕ) (send : SendPass) (take : TakePass) (
         let long = one_more in
         get_or-set_other words 1 (slot_of buffer p) (length send.sent + 1) 0 n
         ∙ ⊎_elim (λ old. W.queued_in_slots p from old ∙ sym (grown-before p old))
-            (λ past. let last : p ≡ length send.sent = omega arith in
-                ap (λ (k : ℕ). get_or words (slot_of buffer k) 0) last ∙ X.to_send_in_slot value pending ∙ sym grown-last ∙ ap (λ (k : ℕ). get_or grown k 0) (sym last))
-            (cases_lt p (length send.sent))
+        (λ past. let last : p ≡ length send.sent = omega arith in
+        ap (λ (k : ℕ). get_or words (slot_of buffer k) 0) last ∙ X.to_send_in_slot value pending ∙ sym grown-last ∙ ap (λ (k : ℕ). get_or grown k 0) (sym last))
+        (cases_lt p (length send.sent))
 
     pub sender_stores_write : Fits buffer published (stored_write value send) take tags
     sender_stores_write = let size = W.sized in

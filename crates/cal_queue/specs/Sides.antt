@@ -3,7 +3,7 @@
 use Rattle.std.specs.Prelude.{◌≡◌, ℕ, true, false, List}
 use mathlib.Core.Option.{some}
 use lib.ListN.{get_elem?}
-use Rattle.atomic_table.specs.Table.{State}
+use Rattle.atomic_table.specs.Table.{State, Me}
 use Rattle.cal_queue.specs.declared.sided.Sided.{Sided}
 
 module _ {P Q : Type 0} where
@@ -31,3 +31,11 @@ module _ {P Q : Type 0} where
     pub only_reader : (seat : ℕ) (v : Sided P Q) → get_elem? s.views seat ≡ some v → v.reads ≡ true → (seat ≡ reading_seat) × (v.reader ≡ reader)
     pub one_writer : (v : Sided P Q) × (get_elem? s.views writing_seat ≡ some v) × (v.writes ≡ true)
     pub one_reader : (v : Sided P Q) × (get_elem? s.views reading_seat ≡ some v) × (v.reads ≡ true)
+
+module _ {S P Q : Type 0} where
+  -- a seat whose writing side, or whose reading side, has a new pass
+  abbrev pub with_writer : Me S (Sided P Q) → P → Me S (Sided P Q)
+  with_writer me p = (record me.0 { writer = p }, me.1)
+
+  abbrev pub with_reader : Me S (Sided P Q) → Q → Me S (Sided P Q)
+  with_reader me q = (record me.0 { reader = q }, me.1)

@@ -4,6 +4,9 @@
 //! which joins both ends and says that nothing was lost.
 
 mod pass;
+mod plays;
 mod rule;
+mod sender_steps;
+mod taker_steps;
 
 pub use pass::{SendPass, TakePass};
