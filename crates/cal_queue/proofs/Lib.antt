@@ -1,3 +1,4 @@
+pub mod LastValues
 pub mod Members
 pub mod OneSideEach
 pub mod Schedules

@@ -7,6 +7,7 @@ mod bounded_queue;
 pub mod fixed_size_used_chunk_list;
 pub mod index_queue;
 mod marks;
+pub mod push_refusal;
 pub mod safely_overflowing_index_queue;
 mod sided;
 pub mod submission_ring;

@@ -6,7 +6,13 @@
 mod pass;
 mod plays;
 mod rule;
+mod send_seat;
 mod sender_steps;
+mod sending;
+mod take_seat;
 mod taker_steps;
+mod taking;
 
 pub use pass::{SendPass, TakePass};
+pub use send_seat::SendSeat;
+pub use take_seat::TakeSeat;
