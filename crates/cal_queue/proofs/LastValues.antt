@@ -1,6 +1,6 @@
 -- The sender's copy of its last values: what a value more does to it, and where the oldest one lies.
-use Rattle.std.proofs.Common.{◌≡◌, ◌≢◌, ℕ, zero, suc, ◌+◌, ◌*◌, ◌/◌, ◌%◌, ◌<◌, ◌≤◌, List, [], ◌∷◌, ◌++◌, length, get_or, set, slice_get, Some, refl, sym, ap, ◌∙◌, subst, inl, inr, ◌⊎◌, ⊎_elim, arith, length-append}
-use Rattle.std.proofs.lemmas.Bool.{cases_lt, cases_eq}
+use Rattle.std.proofs.Common.{◌≡◌, ◌≢◌, ℕ, suc, ◌+◌, ◌*◌, ◌/◌, ◌%◌, ◌<◌, ◌≤◌, List, [], ◌∷◌, ◌++◌, length, get_or, set, slice_get, Some, refl, sym, ap, ◌∙◌, ⊎_elim, arith, length-append}
+use Rattle.std.proofs.lemmas.Bool.{cases_lt}
 use Rattle.std.proofs.lemmas.Nat.{mod_below, div-add-mod', mod-mul-add}
 use Rattle.std.proofs.lemmas.List.{length-set, get_or-set_same, get_or-set_other, get_or_append_left, get_or_at, get_or_default}
 use Rattle.std.proofs.lemmas.Option.{slice_get-get_or}
@@ -27,8 +27,10 @@ place-next p buffer place next is wraps follows = ⊎_elim within last (cases_lt
   where
     n : ℕ
     n = buffer + 1
+
     q : ℕ
     q = p / (buffer + 1)
+
     within : place < buffer → next ≡ (p + 1) % (buffer + 1)
     within below =
         let whole = div-add-mod' p (buffer + 1) in
@@ -36,6 +38,7 @@ place-next p buffer place next is wraps follows = ⊎_elim within last (cases_lt
         let whole' : x + place ≡ p = ap (λ (k : ℕ). x + k) is ∙ whole in
         let same : p + 1 ≡ x + (place + 1) = omega arith in
         follows below ∙ sym (ap (λ (k : ℕ). k % (buffer + 1)) same ∙ mod-mul-add (p / (buffer + 1)) (buffer + 1) (place + 1) (omega arith))
+
     last : buffer ≤ place → next ≡ (p + 1) % (buffer + 1)
     last past =
         let low = mod_below p (buffer + 1) (omega arith) in
@@ -59,11 +62,13 @@ KeepsLast-more buffer sent copy place value keeps is = (length-set copy place va
   where
     long : length (sent ++ value ∷ []) ≡ length sent + 1
     long = length-append sent (value ∷ [])
+
     old : (p : ℕ) → length (sent ++ value ∷ []) ≤ p + buffer + 1 → p < length sent → get_or (set copy place value) (p % (buffer + 1)) 0 ≡ get_or (sent ++ value ∷ []) p 0
     old p near below =
         let size = long in
         let apart : p % (buffer + 1) ≢ place = λ e. let one = one_turn p (length sent) (buffer + 1) (omega arith) (omega arith) (e ∙ is) in absurd (omega arith) in
         get_or-set_other copy place (p % (buffer + 1)) value 0 apart ∙ keeps.1 p below (omega arith) ∙ sym (get_or_append_left sent (value ∷ []) 0 p below)
+
     last : (p : ℕ) → p < length (sent ++ value ∷ []) → length sent ≤ p → get_or (set copy place value) (p % (buffer + 1)) 0 ≡ get_or (sent ++ value ∷ []) p 0
     last p below past =
         let size = long in
@@ -72,7 +77,7 @@ KeepsLast-more buffer sent copy place value keeps is = (length-set copy place va
         let low = mod_below (length sent) (buffer + 1) (omega arith) in
         let within = keeps.0 in
         ap (λ (k : ℕ). get_or (set copy place value) k 0) at ∙ get_or-set_same copy place value 0 (omega arith)
-            ∙ sym (ap (λ (k : ℕ). get_or (sent ++ value ∷ []) k 0) here ∙ get_or_at sent value [] 0 (length sent) refl)
+        ∙ sym (ap (λ (k : ℕ). get_or (sent ++ value ∷ []) k 0) here ∙ get_or_at sent value [] 0 (length sent) refl)
 
 -- the oldest value that the copy has lies at the place of the next position
 pub KeepsLast-oldest : (buffer : ℕ) (sent copy : List ℕ) (place position : ℕ) → KeepsLast buffer sent copy → place ≡ length sent % (buffer + 1) → length sent ≡ position + buffer + 1
@@ -93,5 +98,5 @@ oldest-read buffer sent copy place next position value oldest keeps is is_next f
     let low = mod_below (length sent + 1) (buffer + 1) (omega arith) in
     let size = keeps'.0 in
     let value_is : oldest ≡ get_or (sent ++ value ∷ []) position 0 =
-        read ∙ get_or_default (set copy place value) next oldest 0 (omega arith) ∙ KeepsLast-oldest buffer (sent ++ value ∷ []) (set copy place value) next position keeps' next' (omega arith) in
+    read ∙ get_or_default (set copy place value) next oldest 0 (omega arith) ∙ KeepsLast-oldest buffer (sent ++ value ∷ []) (set copy place value) next position keeps' next' (omega arith) in
     (value_is, slice_get-get_or (sent ++ value ∷ []) position 0 (omega arith) ∙ ap (λ (v : ℕ). Some v) (sym value_is))

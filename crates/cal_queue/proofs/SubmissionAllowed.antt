@@ -1,21 +1,21 @@
 -- The table of a submission ring allows each step of its ends.
-use Rattle.std.proofs.Common.{◌≡◌, ◌≢◌, ℕ, ◌+◌, ◌-◌, ◌^◌, ◌<◌, ◌≤◌, Bool, true, false, cond, List, [], ◌∷◌, ◌++◌, length, get_or, set, Some, None, eqb, refl, sym, ap, ◌∙◌, subst, ⊎_elim, arith, eq-eqb, ne_eqb}
+use Rattle.std.proofs.Common.{◌≡◌, ◌≢◌, ℕ, ◌+◌, ◌-◌, ◌^◌, ◌<◌, ◌≤◌, Bool, true, cond, List, [], ◌∷◌, ◌++◌, length, get_or, set, replicate, Some, eqb, refl, sym, ap, ◌∙◌, subst, ⊎_elim, arith, eq-eqb, ne_eqb}
 use Rattle.std.proofs.lemmas.Bool.{cases_eq}
-use Rattle.std.proofs.lemmas.List.{set-get_or}
+use Rattle.std.proofs.lemmas.List.{set-get_or, length-replicate, get_or-replicate}
 use prog.Atomic.{either}
 use mathlib.Core.Option.{none}
-use Rattle.atomic_table.specs.Table.{Me, Allows, step}
-use Rattle.atomic_table.proofs.Lists.{exchanged}
-use Rattle.cal_queue.specs.Channel.{Tag, received, overflowed, sends, overflows, receives}
+use Rattle.atomic_table.specs.Table.{Allows, step, opening}
+use Rattle.cal_queue.specs.Channel.{received, overflowed, sends, overflows, receives}
 use Rattle.cal_queue.specs.Sides.{with_writer, with_reader}
-use Rattle.cal_queue.specs.SubmissionPass.{loaded_read, stored_slot, stored_write, won_exchange, lost_exchange, looked_at_read, looked_at_write, looked_at_slot, took, missed, IsIdle}
-use Rattle.cal_queue.specs.SubmissionRule.{Fits, ShowsChannel, HoldsOfRing, slot_of, submitted, IsSubmitted}
-use Rattle.cal_queue.specs.SubmissionSteps.{End, LoadsRead, StoresSlot, StoresWrite, Displaces, LooksAtRead, LooksAtWrite, LooksAtSlot, Takes, IsSettled, Settles}
+use Rattle.cal_queue.specs.SubmissionPass.{new_send_pass, new_take_pass, loaded_read, stored_slot, stored_write, won_exchange, lost_exchange, looked_at_read, looked_at_write, looked_at_slot, took, missed, IsIdle}
+use Rattle.cal_queue.specs.SubmissionRule.{Fits, ShowsChannel, HoldsOfRing, new_view, slot_of, submitted, IsSubmitted}
+use Rattle.cal_queue.specs.SubmissionSteps.{End, LoadsRead, StoresSlot, StoresWrite, Displaces, LooksAtRead, LooksAtWrite, LooksAtSlot, Takes, Settles}
 use Rattle.cal_queue.specs.declared.submission_ring.pass.SendPass.{SendPass}
 use Rattle.cal_queue.specs.declared.submission_ring.pass.TakePass.{TakePass}
+use Rattle.cal_queue.proofs.OneSideEach.{opens}
 use Rattle.cal_queue.proofs.Schedules.{IsReached-more}
 use Rattle.cal_queue.proofs.SidedTables.{writer_allowed, reader_allowed, look_allowed}
-use Rattle.cal_queue.proofs.SubmissionKeeps.{sender_looks, sender_stores_slot, sender_stores_write, pending_room, sender_wins, sender_loses, due_full, taker_looks_at_read, taker_looks_at_write, taker_looks_at_slot, taker_wins, taker_loses, taken_within}
+use Rattle.cal_queue.proofs.SubmissionKeeps.{new_ring_fits, sender_looks, sender_stores_slot, sender_stores_write, pending_room, sender_wins, sender_loses, due_full, taker_looks_at_read, taker_looks_at_write, taker_looks_at_slot, taker_wins, taker_loses, taken_within}
 use Rattle.cal_queue.proofs.TaggedPositions.{tagged-counts}
 
 -- a look leaves the words
@@ -177,3 +177,11 @@ module _ (buffer slots seat : ℕ) (me : End) where
           },
         ),
       ))
+
+-- a new ring meets the rule
+pub ring_opens : (buffer : ℕ) (words : List ℕ) → words ≡ replicate (buffer + 3) 0 → HoldsOfRing buffer (opening words [] (new_view buffer))
+ring_opens buffer words is =
+    let size : length words ≡ buffer + 3 = ap length is ∙ length-replicate (buffer + 3) 0 in
+    let read : get_or words 0 0 ≡ 0 = ap (λ (l : List ℕ). get_or l 0 0) is ∙ get_or-replicate (buffer + 3) 0 0 0 (omega arith) in
+    let written : get_or words 1 0 ≡ 0 = ap (λ (l : List ℕ). get_or l 1 0) is ∙ get_or-replicate (buffer + 3) 1 0 0 (omega arith) in
+    opens (ShowsChannel buffer) words [] (new_send_pass buffer) (new_take_pass buffer) ([], new_ring_fits buffer words size read written, λ completion. ([], refl))

@@ -1,5 +1,5 @@
 -- How the values sent are spread over those received and those that were given back to the sender.
-use Rattle.std.specs.Prelude.{◌≡◌, ℕ, ◌+◌, ◌<◌, ◌≤◌, ◌⊎◌, List, [], ◌∷◌, length, slice_get, Some, ⊤}
+use Rattle.std.specs.Prelude.{◌≡◌, ℕ, ◌+◌, ◌<◌, ◌≤◌, ◌⊎◌, List, length, slice_get, Some}
 
 -- the positions rise
 abbrev pub Rises : List (ℕ × ℕ) → Type 0

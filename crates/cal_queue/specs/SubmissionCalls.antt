@@ -1,6 +1,6 @@
 -- What the calls of a submission ring's two ends do, as a caller of one end knows it: by the pass of that end, which only
 -- its own steps change. Counters of the pass tell that a position was loaded in this call, and not before.
-use Rattle.std.specs.Prelude.{◌≡◌, ℕ, ◌+◌, ◌<◌, ◌≤◌, List, [], ◌∷◌, ◌++◌, length, slice_get, Some}
+use Rattle.std.specs.Prelude.{◌≡◌, ℕ, ◌+◌, ◌<◌, List, [], ◌∷◌, ◌++◌, length, slice_get, Some}
 use Rattle.cal_queue.specs.Channel.{Tag, received, overflowed, tagged_from}
 use Rattle.cal_queue.specs.SubmissionPass.{loaded_read, looked_at_read, looked_at_write}
 use Rattle.cal_queue.specs.SubmissionRule.{IsSubmitted}

@@ -1,4 +1,4 @@
-use Rattle.std.proofs.Common.{rules, arith}
+use Rattle.std.proofs.Common.{arith}
 use Rattle.cal_queue.proofs.SubmissionAllowed.{load_read_allowed}
 use Rattle.cal_queue.proofs.submission_ring.sender_steps.load_read.Goals as goal
 

@@ -1,4 +1,4 @@
-use Rattle.std.proofs.Common.{arith, ◌≡◌, ◌<◌, ◌∙◌, sym, ap, subst, ℕ}
+use Rattle.std.proofs.Common.{arith, ◌∙◌, sym, ap}
 use Rattle.cal_queue.specs.SubmissionRule.{slot_of}
 use Rattle.cal_queue.specs.SubmissionSteps.{End}
 use Rattle.cal_queue.proofs.SubmissionAllowed.{look_at_slot_allowed, take_allowed}

@@ -1,4 +1,4 @@
-use Rattle.std.proofs.Common.{◌≡◌, ◌≢◌, ℕ, ◌+◌, ◌%◌, List, [], ◌∷◌, set, length, ap, sym, subst, ◌∙◌, arith, ne_eqb, length-append}
+use Rattle.std.proofs.Common.{◌≢◌, ℕ, ◌+◌, ◌%◌, List, [], ◌∷◌, set, length, ap, sym, subst, ◌∙◌, arith, ne_eqb, length-append}
 use Rattle.cal_queue.specs.SubmissionCopy.{KeepsLast}
 use Rattle.cal_queue.specs.SubmissionSteps.{End}
 use Rattle.cal_queue.proofs.LastValues.{KeepsLast-more, place-next}

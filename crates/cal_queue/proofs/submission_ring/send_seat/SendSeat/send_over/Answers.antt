@@ -1,4 +1,4 @@
-use Rattle.std.proofs.Common.{◌≡◌, ◌≢◌, ℕ, ◌+◌, ◌%◌, List, [], ◌∷◌, ◌++◌, set, get_or, slice_get, length, ap, sym, subst, ◌∙◌, arith, length-append}
+use Rattle.std.proofs.Common.{ℕ, ◌+◌, ◌%◌, List, [], ◌∷◌, ◌++◌, set, get_or, slice_get, length, ap, sym, subst, ◌∙◌, arith, length-append}
 use Rattle.cal_queue.specs.Sides.{with_writer}
 use Rattle.cal_queue.specs.SubmissionCopy.{KeepsLast}
 use Rattle.cal_queue.specs.SubmissionPass.{won_exchange, lost_exchange}
