@@ -5,4 +5,5 @@ pub mod Schedules
 pub mod SidedTables
 pub mod SubmissionAllowed
 pub mod SubmissionKeeps
+pub mod SubmissionRuns
 pub mod TaggedPositions

@@ -7,6 +7,7 @@ ghost use Rattle.cal_queue.specs.Spread.{IsSpread};
 ghost use Rattle.cal_queue.specs.SubmissionPass.{new_send_pass, new_take_pass};
 ghost use Rattle.cal_queue.specs.SubmissionCalls.{send_pass, take_pass, IsOneRing, IsScheduled};
 
+mod interleavings;
 mod pass;
 mod plays;
 mod rule;
@@ -18,6 +19,7 @@ mod taker_steps;
 mod taking;
 
 use crate::sided::Parting;
+pub use interleavings::every_interleaving_is_a_schedule;
 pub use pass::{SendPass, TakePass};
 use plays::Settle;
 use rule::{Meeting, RingTable};
