@@ -9,6 +9,7 @@ ghost use Rattle.cal_queue.specs.SubmissionCalls.{send_pass, take_pass, IsOneRin
 
 mod interleavings;
 mod pass;
+mod place;
 mod plays;
 mod rule;
 mod send_seat;
@@ -79,6 +80,8 @@ impl SubmissionRing {
             seat: other,
             buffer,
             received: 0,
+            next: 0,
+            place: 0,
         };
         Ok((send, take))
     }
@@ -108,6 +111,8 @@ pub fn rest(send: SendSeat, take: TakeSeat) -> RingRest
         seat: other,
         buffer: _,
         received,
+        next: _,
+        place: _,
     } = take;
     table.shared.join_seat::<Meeting>(&mut seat, other);
     let read = table.shared.load::<Settle>(&mut seat, 0);

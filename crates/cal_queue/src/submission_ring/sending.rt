@@ -2,6 +2,7 @@
 //! nobody.
 ghost use Rattle.std.specs.Prelude.{◌≡◌, ◌+◌, ◌-◌, ◌%◌, ◌^◌, ◌<◌, ◌≤◌, ◌↔◌, ◌⊎◌, [], ◌∷◌, ◌++◌, length, IsTrue, IsFalse, IfSome, IfNone, IfOk, OnOk, OnErr, slice_get, Some, None, Ok, Err};
 
+use super::place::next_place;
 use super::send_seat::SendSeat;
 use super::sender_steps::{append, displace, load_read};
 use crate::push_refusal::PushRefusal;
@@ -11,15 +12,6 @@ fn is_used_up(written: u64) -> bool
     ensures { IsTrue result ↔ (written ≡ 2 ^ 64 - 1) }
 {
     written == u64::MAX
-}
-
-/// The place behind this one, round a row with one place more than the buffer.
-fn next_place(place: usize, buffer: u64) -> usize
-    requires { (place ≤ buffer) × (buffer < 2 ^ 32) }
-    ensures wraps { place ≡ buffer → result ≡ 0 }
-    ensures follows { place < buffer → result ≡ place + 1 }
-{
-    if place as u64 == buffer { 0 } else { place + 1 }
 }
 
 impl SendSeat {

@@ -1,6 +1,7 @@
 //! The calls of the taking end. Each turn of a pop is three loads and an exchange, and takes no memory.
-ghost use Rattle.std.specs.Prelude.{◌≡◌, ◌+◌, ◌<◌, ◌≤◌, ◌↔◌, [], ◌∷◌, ◌++◌, length, IsTrue, IsFalse, IfSome, IfNone, Some, None};
+ghost use Rattle.std.specs.Prelude.{◌≡◌, ◌+◌, ◌%◌, ◌<◌, ◌≤◌, ◌↔◌, [], ◌∷◌, ◌++◌, length, IsTrue, IsFalse, IfSome, IfNone, Some, None};
 
+use super::place::next_place;
 use super::take_seat::TakeSeat;
 use super::taker_steps::{load_positions, take};
 use std::sync::Wait;
@@ -17,6 +18,17 @@ impl TakeSeat {
         load_positions(&self.table, &mut self.seat)
     }
 
+    // The place of a position, without a division where no value overflowed since the last one was taken.
+    fn place_of(&self, position: u64) -> usize
+        ensures { result ≡ position % ((take_pass self.now).buffer + 1) }
+    {
+        if position == self.next {
+            self.place
+        } else {
+            (position % (self.buffer + 1)) as usize
+        }
+    }
+
     // Takes the value at the position that the last look showed, unless the sender was faster.
     fn try_take(&mut self, read: u64, written: u64) -> Option<u64>
         requires looked { (read ≡ (take_pass self.old).seen_read) × ((take_pass self.old).seen_write ≡ Some written) }
@@ -25,12 +37,12 @@ impl TakeSeat {
         ensures taken { IfSome result (λ value. take_pass self.new ≡ took value (take_pass self.old)) }
         ensures lost { IfNone result (take_pass self.new ≡ missed (take_pass self.old)) }
     {
-        let slot = (read % (self.buffer + 1)) as usize + 2;
-        let taken = take(&self.table, &mut self.seat, slot, read, written);
-        if taken.is_some() {
-            self.received += 1;
-        }
-        taken
+        let place = self.place_of(read);
+        let value = take(&self.table, &mut self.seat, place + 2, read, written)?;
+        self.received += 1;
+        self.next = read + 1;
+        self.place = next_place(place, self.buffer);
+        Some(value)
     }
 
     /// Takes the oldest value, if one waits. It tries again where the sender took that value back meanwhile.
