@@ -18,6 +18,8 @@ mod sending;
 mod take_seat;
 mod taker_steps;
 mod taking;
+#[cfg(test)]
+mod tests;
 
 use crate::sided::Parting;
 pub use interleavings::every_interleaving_is_a_schedule;

@@ -115,3 +115,14 @@ impl SendSeat {
         self.written - read < self.buffer
     }
 }
+
+#[cfg(test)]
+mod tests {
+    use super::is_used_up;
+
+    #[test]
+    fn the_last_position_is_never_given(rt: HostRuntime) {
+        assert!(rt; !is_used_up(u64::MAX - 1));
+        assert!(rt; is_used_up(u64::MAX));
+    }
+}
