@@ -1,6 +1,6 @@
 //! The calls of the sending end. A push is a load, two stores and at most one exchange; it takes no memory and waits for
 //! nobody.
-ghost use Rattle.std.specs.Prelude.{◌≡◌, ◌+◌, ◌-◌, ◌%◌, ◌^◌, ◌<◌, ◌≤◌, ◌↔◌, ◌⊎◌, [], ◌∷◌, ◌++◌, length, IsTrue, IsFalse, IfSome, IfNone, IfOk, OnOk, OnErr, slice_get, Some, None, Ok, Err};
+ghost use Rattle.std.specs.Prelude.{◌≡◌, ◌+◌, ◌-◌, ◌%◌, ◌^◌, ◌<◌, ◌≤◌, ◌↔◌, ◌⊎◌, [], ◌∷◌, ◌++◌, length, IsTrue, IsFalse, IfSome, IfNone, IfOk, IsOk, OnOk, OnErr, slice_get, Some, None, Ok, Err};
 
 use super::place::next_place;
 use super::send_seat::SendSeat;
@@ -87,6 +87,7 @@ impl SendSeat {
         ensures none_returned_where { IfOk result (λ back. IfNone back (SeesRoom (send_pass self.old) (send_pass self.new)
             ⊎ (IsTrue overflow × SeesFull (send_pass self.old) (send_pass self.new) × LosesExchange (send_pass self.old) (send_pass self.new)))) }
         ensures refused { OnErr result (SameLists (send_pass self.old) (send_pass self.new)) }
+        ensures taken_with_overflow { IsTrue overflow → length (send_pass self.old).sent < 2 ^ 64 - 1 → IsOk result }
         ensures full { result ≡ Err Full → IsFalse overflow × SeesFull (send_pass self.old) (send_pass self.new) }
         ensures used_up { (result ≡ Err PositionsUsedUp) ↔ (length (send_pass self.old).sent ≡ 2 ^ 64 - 1) }
     {
