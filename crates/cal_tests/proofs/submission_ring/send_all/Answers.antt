@@ -1,4 +1,5 @@
 use Rattle.std.proofs.Common.{ℕ, [], ◌∷◌, ◌++◌, List, length, ap, sym, ◌∙◌, refl, arith}
+use Rattle.std.proofs.lemmas.Bool.{false≢true}
 use Rattle.std.proofs.lemmas.List.FromFn.{length-range_with_len}
 use Rattle.cal_tests.proofs.RisingValues.{range-more}
 use Rattle.cal_tests.proofs.submission_ring.send_all.Goals as goal
@@ -8,7 +9,7 @@ unreachable-requires c =
     let value = c.loop-value.value in
     let sent = ap length c.loop-value.invariant.1 ∙ length-range_with_len 0 value in
     let counts = c.requires.counts in
-    c.in_default.ensures.taken_with_overflow refl (omega arith)
+    absurd (false≢true (c.in_default.ensures.taken_with_overflow refl (omega arith)))
 
 pub loop-value-preserved : goal.loop-value-preserved
 loop-value-preserved c =
