@@ -1,7 +1,7 @@
 -- Each step of either end of a submission ring keeps the words and the passes fitting together, from any state in which
 -- they do.
-use Rattle.std.proofs.Common.{◌≡◌, ◌≢◌, ℕ, ◌+◌, ◌-◌, ◌%◌, ◌^◌, ◌<◌, ◌≤◌, Bool, true, false, List, [], ◌∷◌, ◌++◌, length, get_or, set, replicate, Option, Some, None, eqb, refl, sym, ap, ◌∙◌, subst, inl, inr, ◌⊎◌, ⊎_elim, arith, length-append, eq-eqb, eqb-true}
-use Rattle.std.proofs.lemmas.Bool.{false≢true, cases_eq, cases_lt}
+use Rattle.std.proofs.Common.{◌≡◌, ◌≢◌, ℕ, ◌+◌, ◌-◌, ◌%◌, ◌^◌, ◌<◌, ◌≤◌, Bool, true, false, List, [], ◌∷◌, ◌++◌, length, get_or, set, Some, eqb, refl, sym, ap, ◌∙◌, ⊎_elim, arith, length-append, eq-eqb, eqb-true}
+use Rattle.std.proofs.lemmas.Bool.{false≢true, cases_lt}
 use Rattle.std.proofs.lemmas.Nat.{mod_below}
 use Rattle.std.proofs.lemmas.List.{length-set, get_or-set_same, get_or-set_other, get_or_append_left, get_or_at, append-nil}
 use Rattle.atomic_table.proofs.Lists.{one_turn}
@@ -160,9 +160,9 @@ module _ (buffer : ℕ) (words : List ℕ) (send : SendPass) (take : TakePass) (
         let long = one_more in
         get_or-set_other words 1 (slot_of buffer p) (length send.sent + 1) 0 n
         ∙ ⊎_elim (λ old. W.queued_in_slots p from old ∙ sym (grown-before p old))
-            (λ past. let last : p ≡ length send.sent = omega arith in
-                ap (λ (k : ℕ). get_or words (slot_of buffer k) 0) last ∙ X.to_send_in_slot value pending ∙ sym grown-last ∙ ap (λ (k : ℕ). get_or grown k 0) (sym last))
-            (cases_lt p (length send.sent))
+        (λ past. let last : p ≡ length send.sent = omega arith in
+        ap (λ (k : ℕ). get_or words (slot_of buffer k) 0) last ∙ X.to_send_in_slot value pending ∙ sym grown-last ∙ ap (λ (k : ℕ). get_or grown k 0) (sym last))
+        (cases_lt p (length send.sent))
 
     pub sender_stores_write : Fits buffer published (stored_write value send) take tags
     sender_stores_write = let size = W.sized in

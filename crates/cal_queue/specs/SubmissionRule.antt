@@ -1,7 +1,7 @@
 -- Which channel the words of a submission ring show, beside the passes of its two ends.
-use Rattle.std.specs.Prelude.{◌≡◌, ℕ, ◌+◌, ◌-◌, ◌%◌, ◌^◌, ◌<◌, ◌≤◌, Bool, true, false, List, [], length, slice_index, Option, Some, None}
+use Rattle.std.specs.Prelude.{◌≡◌, ℕ, ◌+◌, ◌-◌, ◌%◌, ◌^◌, ◌<◌, ◌≤◌, true, false, List, [], length, slice_index, Some, None}
 use Rattle.atomic_table.specs.Table.{State}
-use Rattle.cal_queue.specs.Channel.{Tag, received, overflowed, Channel, Bounds, IsReached, tagged_from}
+use Rattle.cal_queue.specs.Channel.{Tag, received, overflowed, Channel, IsReached, tagged_from}
 use Rattle.cal_queue.specs.Sides.{HasTwoSides, both_sides, spent}
 use Rattle.cal_queue.specs.SubmissionPass.{new_send_pass, new_take_pass}
 use Rattle.cal_queue.specs.declared.sided.Sided.{Sided}

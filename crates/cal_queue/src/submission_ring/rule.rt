@@ -2,9 +2,14 @@
 
 use super::pass::{SendPass, TakePass};
 use crate::sided::Sided;
-use atomic_table::{Join, TableRule};
+use atomic_table::{Join, Seat, Table, TableRule};
+use std::alloc::Global;
 
 pub(crate) type RingView = Sided<SendPass, TakePass>;
+
+pub(crate) type RingTable = Table<(), RingView, u64, SubmissionRule, Global>;
+
+pub(crate) type RingSeat = Seat<(), RingView>;
 
 // The key is how many values the ring keeps between two calls.
 pub(crate) struct SubmissionRule;
