@@ -1,9 +1,9 @@
 -- What holds of a completion ring in every interleaving of its two ends.
 use Rattle.std.specs.Prelude.{◌≡◌, ℕ, ◌+◌, ◌-◌, ◌^◌, ◌<◌, ◌≤◌, List, [], ◌∷◌, ◌++◌, length, map, replicate, slice_index, slice_set, None, IsSome}
 use Rattle.std.specs.Option.{option_to_list}
-use Rattle.cal_queue.specs.Channel.{Channel, Event, IsSchedule, reclaims, releases}
+use Rattle.cal_queue.specs.Channel.{Bounds, Channel, Event, IsSchedule, reclaims, releases, unused}
 use Rattle.cal_queue.specs.CompletionPass.{loaded_read, loaded_slot, loaded_write, new_get_pass, new_put_pass, stored_read, stored_slot, stored_write}
-use Rattle.cal_queue.specs.CompletionRule.{Fits, completed, slot_of}
+use Rattle.cal_queue.specs.CompletionRule.{Fits, slot_of}
 use Rattle.cal_queue.specs.declared.completion_ring.pass.GetPass.{GetPass}
 use Rattle.cal_queue.specs.declared.completion_ring.pass.PutPass.{PutPass}
 
@@ -16,12 +16,12 @@ pub record Moment : Type 0 where
 abbrev pub new_ring : ℕ → Moment
 new_ring capacity = record { words = replicate (capacity + 2) 0; putter = new_put_pass capacity; getter = new_get_pass capacity }
 
-abbrev pub FitsAt : ℕ → Moment → Type 0
-FitsAt capacity m = Fits capacity m.words m.putter m.getter
-
--- the channel that a moment shows
-abbrev pub shown : Moment → Channel
-shown m = completed m.putter.put (length m.getter.got)
+-- a moment shows a channel: its values are those that were released, as many as were got are reclaimed, and the words and
+-- both passes fit together. What is sent on it and how that left the queue is another ring's to show
+pub record Shows (capacity : ℕ) (m : Moment) (c : Channel) : Type 0 where
+  pub released : c.released ≡ m.putter.put
+  pub reclaimed : c.reclaimed ≡ length m.getter.got
+  pub fits : Fits capacity m.words m.putter m.getter
 
 -- the steps of the putting end, which stores a value and then the write position, and those of the getting end
 pub data RingStep : Type 0 where
@@ -69,20 +69,16 @@ abbrev pub events_of_run : ℕ → Moment → List RingStep → List Event
 events_of_run capacity m [] = []
 events_of_run capacity m (s ∷ steps) = events_of m s ++ events_of_run capacity (after_step capacity m s) steps
 
--- a new ring fits together
-abbrev pub EveryNewRing : Type 0
-EveryNewRing = (capacity : ℕ) → 1 ≤ capacity → FitsAt capacity (new_ring capacity)
+-- a new ring shows the unused channel
+abbrev pub NewRingIsUnused : Type 0
+NewRingIsUnused = (capacity : ℕ) → 1 ≤ capacity → Shows capacity (new_ring capacity) unused
 
--- each step, taken at words and passes that fit together, leaves ones that do
-abbrev pub EveryStepFits : Type 0
-EveryStepFits = (capacity : ℕ) (m : Moment) (s : RingStep) → FitsAt capacity m → MayTake capacity m s → FitsAt capacity (after_step capacity m s)
+-- from any moment that shows a channel, each step is an event that may happen on it, or none
+abbrev pub EachStepIsAnEvent : Type 0
+EachStepIsAnEvent = (b : Bounds) (m : Moment) (c : Channel) (s : RingStep) → Shows b.completion m c → MayTake b.completion m s
+    → (d : Channel) × IsSchedule b c (events_of m s) d × Shows b.completion (after_step b.completion m s) d
 
--- each step is its event, where that may happen, or none
-abbrev pub EveryStepIsItsEvent : Type 0
-EveryStepIsItsEvent = (buffer capacity : ℕ) (m : Moment) (s : RingStep) → FitsAt capacity m → MayTake capacity m s
-    → IsSchedule (record { buffer = buffer; completion = capacity }) (shown m) (events_of m s) (shown (after_step capacity m s))
-
--- the steps of a run, however the two ends take turns, are a schedule of the channel
-abbrev pub EveryRunIsASchedule : Type 0
-EveryRunIsASchedule = (buffer capacity : ℕ) (m last : Moment) (steps : List RingStep) → FitsAt capacity m → IsRun capacity m steps last
-    → FitsAt capacity last × IsSchedule (record { buffer = buffer; completion = capacity }) (shown m) (events_of_run capacity m steps) (shown last)
+-- so each run of steps, however the two ends take turns, is a schedule of the channel
+abbrev pub EachRunIsASchedule : Type 0
+EachRunIsASchedule = (b : Bounds) (m last : Moment) (c : Channel) (steps : List RingStep) → Shows b.completion m c → IsRun b.completion m steps last
+    → (d : Channel) × IsSchedule b c (events_of_run b.completion m steps) d × Shows b.completion last d

@@ -9,7 +9,7 @@ ghost use Rattle.cal_queue.specs.CompletionPass.{new_get_pass, new_put_pass};
 mod get_seat;
 mod get_steps;
 mod getting;
-mod law;
+mod interleavings;
 mod meeting;
 mod pass;
 mod plays;
@@ -20,7 +20,7 @@ mod rest;
 mod rule;
 
 pub use get_seat::GetSeat;
-pub use law::completion_ring_law;
+pub use interleavings::every_interleaving_is_a_schedule;
 use meeting::part;
 pub use pass::{GetPass, PutPass};
 pub use put_seat::PutSeat;

@@ -2,4 +2,5 @@
 //! public contracts alone, as any user would.
 #![tactic(auto)]
 
+pub mod completion_ring;
 pub mod submission_ring;
