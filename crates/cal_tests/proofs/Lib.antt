@@ -1,1 +1,2 @@
 pub mod RisingValues
+pub mod StepWrites

@@ -1,8 +1,10 @@
 //! A completion ring between two threads: every value that one thread puts, the other gets, in the same order.
-ghost use Rattle.std.specs.Prelude.{◌≡◌, ◌+◌, ◌^◌, ◌<◌, ◌≤◌, [], length, IfOk};
+ghost use Rattle.std.specs.Prelude.{◌≡◌, ◌+◌, ◌^◌, ◌<◌, ◌≤◌, [], length, take, vec_capacity, vec_len, IfOk};
 ghost use Rattle.cal_queue.specs.CompletionCalls.{SameGetEnd, SamePutEnd, get_pass, put_pass};
 
-use cal_queue::completion_ring::{CompletionRest, CompletionRing, GetSeat, PutSeat, rest_completion};
+use cal_queue::completion_ring::{
+    CompletionRest, CompletionRing, GetSeat, PutSeat, rest_completion,
+};
 use cal_queue::push_refusal::PushRefusal;
 use std::alloc::{AllocError, Global};
 use std::sync::Wait;

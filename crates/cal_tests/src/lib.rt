@@ -3,4 +3,5 @@
 #![tactic(auto)]
 
 pub mod completion_ring;
+pub mod state_table;
 pub mod submission_ring;
