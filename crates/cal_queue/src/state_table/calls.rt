@@ -10,10 +10,11 @@ use crate::reserve_refusal::ReserveRefusal;
 use std::sync::Wait;
 
 impl StateSeat {
-    ghost use Rattle.cal_queue.specs.StateSeats.{pass};
+    ghost use Rattle.cal_queue.specs.StateSeats.{ShareTable, pass};
 
     /// Which sides are there, by one load of the port word.
     pub fn load_port(&mut self) -> u64
+        ensures same_table { ShareTable self.new self.old }
         ensures step { pass self.new ≡ took (pass self.old) (looked port_place result) }
         ensures port { IsPortWord result }
         ensures witnessed { IsWitnessed (pass self.new) }
@@ -25,6 +26,7 @@ impl StateSeat {
     /// The word of a channel, by one load.
     pub fn load_channel(&mut self, channel: usize) -> u64
         requires { channel < (pass self.old).opening.channels }
+        ensures same_table { ShareTable self.new self.old }
         ensures step { pass self.new ≡ took (pass self.old) (looked (channel_place channel) result) }
         ensures witnessed { IsWitnessed (pass self.new) }
     {
@@ -36,6 +38,7 @@ impl StateSeat {
     /// word that was found, which stays.
     pub fn exchange_channel(&mut self, channel: usize, expected: u64, new: u64) -> Result<u64, u64>
         requires { channel < (pass self.old).opening.channels }
+        ensures same_table { ShareTable self.new self.old }
         ensures won { OnOk result (pass self.new ≡ took (pass self.old) (wrote (channel_place channel) expected new)) }
         ensures word { MatchResult result (λ word. word ≡ expected) (λ word. word ≢ expected) }
         ensures lost { IfErr result (λ word. pass self.new ≡ took (pass self.old) (looked (channel_place channel) word)) }
@@ -53,6 +56,7 @@ impl StateSeat {
     /// Joins: adds a side's bit to a port word that has neither that bit nor the mark.
     pub fn reserve<R: Wait>(&mut self, rt: &R, bit: u8) -> Result<(), ReserveRefusal>
         requires { IsPortBit bit }
+        ensures same_table { ShareTable self.new self.old }
         ensures ok { OnOk result (Reserved bit (pass self.old) (pass self.new)) }
         ensures refused { IfErr result (λ refusal. Refused bit refusal (pass self.old) (pass self.new)) }
         ensures witnessed { IsWitnessed (pass self.new) }
@@ -71,6 +75,7 @@ impl StateSeat {
     /// side's bit goes and the other stays. A side that isn't there changes nothing.
     pub fn leave<R: Wait>(&mut self, rt: &R, bit: u8) -> bool
         requires { IsPortBit bit }
+        ensures same_table { ShareTable self.new self.old }
         ensures marked { OnTrue result (LeftMark bit (pass self.old) (pass self.new)) }
         ensures unmarked { OnFalse result (LeftOther bit (pass self.old) (pass self.new) ⊎ WasAbsent bit (pass self.old) (pass self.new)) }
         ensures witnessed { IsWitnessed (pass self.new) }

@@ -22,11 +22,12 @@ fn has_bit(word: u64, bit: u64) -> bool
 }
 
 impl StateSeat {
-    ghost use Rattle.cal_queue.specs.StateSeats.{pass};
+    ghost use Rattle.cal_queue.specs.StateSeats.{ShareTable, pass};
 
     // One exchange of the port word, and whether it won.
     fn try_change(&mut self, seen: u64, new: u64) -> bool
         requires { MayChange seen new }
+        ensures same_table { ShareTable self.new self.old }
         ensures won { OnTrue result (pass self.new ≡ took (pass self.old) (wrote port_place seen new)) }
         ensures lost { OnFalse result ((word : ℕ) × (pass self.new ≡ took (pass self.old) (looked port_place word))) }
         ensures witnessed { IsWitnessed (pass self.new) }
@@ -38,6 +39,7 @@ impl StateSeat {
     // Whether the bit was added. It was not where the word changed after it was looked at.
     pub(super) fn try_reserve(&mut self, bit: u64) -> Result<bool, ReserveRefusal>
         requires { IsPortBit bit }
+        ensures same_table { ShareTable self.new self.old }
         ensures ok { IfOk result (λ won. MatchBool won (Reserved bit (pass self.old) (pass self.new)) (OnlyLooked (pass self.old) (pass self.new))) }
         ensures refused { IfErr result (λ refusal. Refused bit refusal (pass self.old) (pass self.new)) }
         ensures witnessed { IsWitnessed (pass self.new) }
@@ -55,6 +57,7 @@ impl StateSeat {
     // Whether the word was marked, or None where it changed after it was looked at.
     pub(super) fn try_leave(&mut self, bit: u64) -> Option<bool>
         requires { IsPortBit bit }
+        ensures same_table { ShareTable self.new self.old }
         ensures some { IfSome result (λ marked. MatchBool marked (LeftMark bit (pass self.old) (pass self.new)) (LeftOther bit (pass self.old) (pass self.new) ⊎ WasAbsent bit (pass self.old) (pass self.new))) }
         ensures none { IfNone result (OnlyLooked (pass self.old) (pass self.new)) }
         ensures witnessed { IsWitnessed (pass self.new) }
