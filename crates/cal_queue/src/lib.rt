@@ -1,6 +1,7 @@
-//! The queues and used lists of a channel, for one thread. Each takes all its memory when it is
-//! made, so that no later call fails for want of it. Contracts see a queue as a list of numbers
-//! with a capacity, and a used list as a set of numbers below its capacity.
+//! The queues and used lists of a channel. Each takes all its memory when it is made, so that no
+//! later call fails for want of it. Contracts see a queue for one thread as a list of numbers with
+//! a capacity, and a used list as a set of numbers below its capacity. A ring for two threads is
+//! seen from each of its ends, by what that end has done.
 #![tactic(auto)]
 
 mod bounded_queue;
