@@ -1,8 +1,8 @@
-//! The queues and used lists of a channel, for one thread, and its rings and the words of its
-//! connection, for two. Each takes all its memory when it is made, so that no later call fails for
-//! want of it. Contracts see a queue as a list of numbers with a capacity, a used list as a set of
-//! numbers below its capacity, and the seat of one thread at a ring or at a table of words by its
-//! pass, which is what this seat's own steps did and saw.
+//! The queues and used lists of a channel, and the words of a connection. Each takes all its memory
+//! when it is made, so that no later call fails for want of it. Contracts see a queue for one thread
+//! as a list of numbers with a capacity, and a used list as a set of numbers below its capacity. A
+//! ring for two threads, or a table of words, is seen from each of its ends, by what that end has
+//! done.
 #![tactic(auto)]
 
 mod bounded_queue;

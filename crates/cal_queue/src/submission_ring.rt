@@ -25,7 +25,7 @@ use crate::sided::Parting;
 pub use interleavings::every_interleaving_is_a_schedule;
 pub use pass::{SendPass, TakePass};
 use plays::Settle;
-use rule::{Meeting, RingTable};
+use rule::{FIRST_SLOT, Meeting, READ_POSITION, RingTable};
 pub use send_seat::SendSeat;
 use std::alloc::{AllocError, Global};
 use std::sync::Arc;
@@ -62,7 +62,7 @@ impl SubmissionRing {
         ensures nothing_received { IfOk result (λ ends. take_pass ends.1 ≡ new_take_pass buffer) }
     {
         let copy = zeros(alloc, buffer + 1)?;
-        let words = zeros(alloc, buffer + 3)?;
+        let words = zeros(alloc, FIRST_SLOT + buffer + 1)?;
         let buffer = buffer as u64;
         let (table, mut seat) = RingTable::of_words(alloc, words.as_slice(), &buffer)?;
         let other = table.shared.split_seat::<Parting>(&mut seat);
@@ -117,7 +117,7 @@ pub fn rest(send: SendSeat, take: TakeSeat) -> RingRest
         place: _,
     } = take;
     table.shared.join_seat::<Meeting>(&mut seat, other);
-    let read = table.shared.load::<Settle>(&mut seat, 0);
+    let read = table.shared.load::<Settle>(&mut seat, READ_POSITION);
     RingRest {
         sent: written as usize,
         received: received as usize,

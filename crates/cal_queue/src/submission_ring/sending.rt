@@ -3,6 +3,7 @@
 ghost use Rattle.std.specs.Prelude.{◌≡◌, ◌+◌, ◌-◌, ◌%◌, ◌^◌, ◌<◌, ◌≤◌, ◌↔◌, ◌⊎◌, [], ◌∷◌, ◌++◌, length, IsTrue, IsFalse, IfSome, IfNone, IfOk, IsOk, OnOk, OnErr, slice_get, Some, None, Ok, Err};
 
 use super::place::next_place;
+use super::rule::FIRST_SLOT;
 use super::send_seat::SendSeat;
 use super::sender_steps::{append, displace, load_read};
 use crate::push_refusal::PushRefusal;
@@ -38,7 +39,7 @@ impl SendSeat {
         append(
             &self.table,
             &mut self.seat,
-            self.place + 2,
+            FIRST_SLOT + self.place,
             self.written,
             value,
         );
@@ -62,7 +63,7 @@ impl SendSeat {
         append(
             &self.table,
             &mut self.seat,
-            self.place + 2,
+            FIRST_SLOT + self.place,
             self.written,
             value,
         );

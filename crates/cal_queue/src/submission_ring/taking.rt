@@ -2,6 +2,7 @@
 ghost use Rattle.std.specs.Prelude.{◌≡◌, ◌+◌, ◌%◌, ◌<◌, ◌≤◌, ◌↔◌, [], ◌∷◌, ◌++◌, length, IsTrue, IsFalse, IfSome, IfNone, Some, None};
 
 use super::place::next_place;
+use super::rule::FIRST_SLOT;
 use super::take_seat::TakeSeat;
 use super::taker_steps::{load_positions, take};
 use std::sync::Wait;
@@ -38,7 +39,13 @@ impl TakeSeat {
         ensures lost { IfNone result (take_pass self.new ≡ missed (take_pass self.old)) }
     {
         let place = self.place_of(read);
-        let value = take(&self.table, &mut self.seat, place + 2, read, written)?;
+        let value = take(
+            &self.table,
+            &mut self.seat,
+            FIRST_SLOT + place,
+            read,
+            written,
+        )?;
         self.received += 1;
         self.next = read + 1;
         self.place = next_place(place, self.buffer);
