@@ -8,7 +8,11 @@ use Rattle.cal_alloc.specs.Bump.{Bump, new_bump}
 abbrev pub fresh_allocator : ℕ → Bump
 fresh_allocator room = record (new_bump 4096 room) { is_ready = true }
 
-module _ {F T : Type 0} (calls : Mut F (MutBor T × (MutBor Bump × Unit {0})) (Bool × (MutBor T × (MutBor Bump × Unit {0})))) where
+-- the calls of an initializer of type F: it takes a value and an allocator, and answers a test
+abbrev pub Calls : Type 0 → Type 0 → Type 1
+Calls F T = Mut F (MutBor T × (MutBor Bump × Unit {0})) (Bool × (MutBor T × (MutBor Bump × Unit {0})))
+
+module _ {F T : Type 0} (calls : Calls F T) where
   -- an initializer may be called on this value and that much room
   abbrev pub MayInitialize : F → T → ℕ → Type 0
   MayInitialize initializer value room =

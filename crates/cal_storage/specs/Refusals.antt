@@ -43,7 +43,8 @@ module _ {T : Type 0} where
   abbrev pub open_or_create_refusal : Bool → Contents T → Settings → List ℕ → Option DynamicStorageOpenError
   open_or_create_refusal checks_version contents settings name =
       if is_too_long settings name then Some open_error.PathTooLong
-      else if is_some (id_at contents (file_path_for settings name)) then entry_refusal checks_version (entry_at contents (file_path_for settings name))
+      else if is_some (id_at contents (file_path_for settings name))
+      then entry_refusal checks_version (entry_at contents (file_path_for settings name))
       else None
 
   -- without a name; one whose path would be too long stands for nothing

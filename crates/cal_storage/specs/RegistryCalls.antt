@@ -1,18 +1,15 @@
 -- What a creation, and the finish of an entry that was being made, make of a registry.
 use Rattle.std.specs.Prelude.{◌≡◌, ℕ, ◌⊎◌, Bool, true, false, Option, Some, None, IsSomeAnd, List, length, if◌then◌else◌}
-use Rattle.std.specs.Fn.{Mut}
-use Rattle.std.specs.Borrow.{MutBor}
-use Rattle.cal_alloc.specs.Bump.{Bump}
 use Rattle.cal_storage.specs.Contents.{Contents, Handle, id_at, value_of, created, finished, withdrawn}
 use Rattle.cal_storage.specs.Refusals.{finished_version}
-use Rattle.cal_storage.specs.Initializer.{Initializes}
+use Rattle.cal_storage.specs.Initializer.{Calls, Initializes}
 use Rattle.cal_storage.specs.declared.dynamic_storage.DynamicStorageCreateError as create
 use Rattle.cal_storage.specs.declared.dynamic_storage.DynamicStorageOpenError as opening
 use Rattle.cal_storage.specs.declared.dynamic_storage.DynamicStorageOpenOrCreateError.{DynamicStorageOpenOrCreateError}
 use Rattle.cal_storage.specs.declared.dynamic_storage.DynamicStorageOpenOrCreateError.TheVariants.{DynamicStorageOpenError, DynamicStorageCreateError}
 use Rattle.cal_storage.specs.declared.dynamic_storage.DynamicStorageCreateError.TheVariants.{InitializationFailed, NoMemory}
 
-module _ {F T : Type 0} (calls : Mut F (MutBor T × (MutBor Bump × Unit {0})) (Bool × (MutBor T × (MutBor Bump × Unit {0})))) where
+module _ {F T : Type 0} (calls : Calls F T) where
   -- The initializer answered true, and the path, which stood for nothing, stands for a new entry with the value that it left.
   pub record Creates (initializer : F) (value : T) (room : ℕ) (old : Contents T) (path : List ℕ) (new : Contents T) : Type 0 where
     pub left : T
@@ -31,7 +28,8 @@ module _ {F T : Type 0} (calls : Mut F (MutBor T × (MutBor Bump × Unit {0})) (
       (refusal ≡ Some error) ⊎ (error ≡ NoMemory) ⊎ ((error ≡ InitializationFailed) × Refuses initializer value room)
 
   -- why an opening or creation failed: the opening was refused; or nothing was found, and the creation failed
-  abbrev pub OpenOrCreateFails : Option opening.DynamicStorageOpenError → Option ℕ → F → T → ℕ → DynamicStorageOpenOrCreateError → Type 0
+  abbrev pub OpenOrCreateFails :
+      Option opening.DynamicStorageOpenError → Option ℕ → F → T → ℕ → DynamicStorageOpenOrCreateError → Type 0
   OpenOrCreateFails refusal found initializer value room (DynamicStorageOpenError error) = refusal ≡ Some error
   OpenOrCreateFails refusal found initializer value room (DynamicStorageCreateError error) =
       (found ≡ None) × CreateFails None initializer value room error

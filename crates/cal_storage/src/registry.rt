@@ -328,7 +328,8 @@ fn enter_name<T>(
     ensures exists { IsErrOf result AlreadyExists ↔ IsSome (lookup (is_path path.now) names.old.entries) }
     ensures error { IfErr result (λ error. (error ≡ AlreadyExists) ⊎ (error ≡ NoMemory)) }
     ensures id { IfOk result (λ id. id ≡ length slots.old.items) }
-    ensures entered { OnOk result (names.new.entries ≡ insert_entry (slice_cmp nat_cmp) names.old.entries path.now (length slots.old.items)) }
+    ensures entered { OnOk result (names.new.entries
+        ≡ insert_entry (slice_cmp nat_cmp) names.old.entries path.now (length slots.old.items)) }
     ensures room { OnOk result (vec_len slots.new < vec_capacity slots.new) }
     ensures slots { slots.new.items ≡ slots.old.items }
     ensures unchanged { OnErr result (names.new.entries ≡ names.old.entries) }

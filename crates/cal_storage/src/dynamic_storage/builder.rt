@@ -30,13 +30,14 @@ pub struct Builder<T, K> {
 
 impl<T, K> Model for Builder<T, K> {
     ghost use Rattle.std.specs.Prelude.{◌≤◌, ◌^◌, Some};
+    ghost use Rattle.cal_names.specs.Settings.{settings_from};
     ghost use Rattle.cal_storage.specs.Plan.{Plan};
 
     ghost Value = { Plan };
 
     ghost view = { λ b. record {
       name = b.name;
-      settings = record { prefix = b.config.prefix; type_name = Some b.config.type_name; suffix = b.config.suffix; path_hint = b.config.path_hint };
+      settings = settings_from b.config.prefix (Some b.config.type_name) b.config.suffix b.config.path_hint;
       is_owner = b.has_ownership;
       room = b.supplementary_size;
     } };

@@ -1,5 +1,6 @@
 //! The configuration of a storage: what stands before and behind a name in the path of its file, and the stored type's name.
 ghost use Rattle.std.specs.Prelude.{◌≡◌, Some, codes, refl};
+ghost use Rattle.cal_names.specs.Settings.{settings_from};
 
 use cal_names::{
     DynamicStorageConfiguration, FileName, NamedConceptConfiguration, NamedType, Path, TypeName,
@@ -17,7 +18,8 @@ pub struct Configuration<T> {
 }
 
 impl<T: NamedType> Default for Configuration<T> {
-    ghost is_default = { λ c. (c.prefix ≡ codes "iox2_") × (c.suffix ≡ codes ".dyn") × (c.path_hint ≡ codes "/tmp") × (c.type_name ≡ T.name) };
+    ghost is_default = { λ c. (c.prefix ≡ codes "iox2_") × (c.suffix ≡ codes ".dyn")
+        × (c.path_hint ≡ codes "/tmp") × (c.type_name ≡ T.name) };
 
     fn default() -> Self {
         Configuration {
@@ -31,9 +33,9 @@ impl<T: NamedType> Default for Configuration<T> {
 }
 
 impl<T: NamedType> NamedConceptConfiguration for Configuration<T> {
-    ghost settings = { λ c. record { prefix = c.prefix; type_name = Some c.type_name; suffix = c.suffix; path_hint = c.path_hint } };
+    ghost settings = { λ c. settings_from c.prefix (Some c.type_name) c.suffix c.path_hint };
 
-    ghost initial = { record { prefix = codes "iox2_"; type_name = Some T.name; suffix = codes ".dyn"; path_hint = codes "/tmp" } };
+    ghost initial = { settings_from (codes "iox2_") (Some T.name) (codes ".dyn") (codes "/tmp") };
 
     fn prefix(self, value: &FileName) -> Self {
         Configuration {
@@ -72,7 +74,8 @@ impl<T: NamedType> NamedConceptConfiguration for Configuration<T> {
         Some(self.type_name)
     }
 
-    ghost starts = { λ c default i. record { prefix = default.0 i; type_name = Some (default.3 i); suffix = default.1 i; path_hint = default.2 i } };
+    ghost starts = { λ c default i.
+        settings_from (default.0 i) (Some (default.3 i)) (default.1 i) (default.2 i) };
 
     ghost defaults = { (refl, refl) };
 }
