@@ -8,5 +8,4 @@ pub fn every_interleaving_is_a_schedule()
     ensures opens { NewRingIsUnused }
     ensures steps { EachStepIsAnEvent }
     ensures runs { EachRunIsASchedule }
-{
-}
+{}
