@@ -36,10 +36,11 @@ SameLists old new = (new.sent ≡ old.sent) × (new.returned ≡ old.returned)
 abbrev pub LoadsOnce : SendPass → SendPass → Type 0
 LoadsOnce old new = new ≡ loaded_read new.seen_read old
 
--- the read position that was loaded meanwhile was as many values below the write position as the buffer holds, or fewer
+-- the read position was loaded once meanwhile, and as many values waited then as the buffer holds
 abbrev pub SeesFull : SendPass → SendPass → Type 0
 SeesFull old new = (new.loads ≡ old.loads + 1) × (length old.sent ≡ new.seen_read + new.buffer)
 
+-- the read position was loaded once meanwhile, and fewer values waited then than the buffer holds
 abbrev pub SeesRoom : SendPass → SendPass → Type 0
 SeesRoom old new = (new.loads ≡ old.loads + 1) × (length old.sent < new.seen_read + new.buffer)
 
