@@ -2,8 +2,8 @@
 use Rattle.std.proofs.Common.{◌∙◌, ◌≡◌, ℕ, ◌+◌, List, [], ◌∷◌, ◌++◌, length, map, replicate, Option, Some, None, IsSome, refl, sym, ap, subst, arith, length-append}
 use Rattle.std.proofs.lemmas.List.{get_or-replicate, length-replicate}
 use Rattle.std.specs.Option.{option_to_list}
-use Rattle.cal_queue.specs.Channel.{Bounds, Channel, Event, IsSchedule, reclaims, releases, unused}
-use Rattle.cal_queue.specs.CompletionLaw.{EachRunIsASchedule, EachStepIsAnEvent, IsRun, MayTake, Moment, NewRingIsUnused, RingStep, Shows, after_step, events_of, events_of_run, loads_read, loads_slot, loads_write, stores_read, stores_slot, stores_write}
+use Rattle.cal_queue.specs.Channel.{Bounds, Channel, IsSchedule, reclaims, releases}
+use Rattle.cal_queue.specs.CompletionLaw.{EachRunIsASchedule, EachStepIsAnEvent, IsRun, Moment, NewRingIsUnused, RingStep, Shows, after_step, events_of, events_of_run, loads_read, loads_slot, loads_write, stores_read, stores_slot, stores_write}
 use Rattle.cal_queue.proofs.CompletionKeeps.{getter_loads, getter_loads_slot, getter_stores_read, got_below, new_ring_fits, putter_loads, putter_stores_slot, putter_stores_write}
 use Rattle.cal_queue.proofs.Schedules.{IsSchedule-joined}
 
