@@ -6,14 +6,8 @@ use super::place::next_place;
 use super::rule::FIRST_SLOT;
 use super::send_seat::SendSeat;
 use super::sender_steps::{append, displace, load_read};
+use crate::positions::is_used_up;
 use crate::push_refusal::PushRefusal;
-
-/// Whether every position that a word can count is used up.
-fn is_used_up(written: u64) -> bool
-    ensures { IsTrue result ↔ (written ≡ 2 ^ 64 - 1) }
-{
-    written == u64::MAX
-}
 
 impl SendSeat {
     ghost use Rattle.cal_queue.specs.SubmissionPass.{loaded_read, stored_slot, stored_write};
@@ -115,16 +109,5 @@ impl SendSeat {
     {
         let read = self.look();
         self.written - read < self.buffer
-    }
-}
-
-#[cfg(test)]
-mod tests {
-    use super::is_used_up;
-
-    #[test]
-    fn the_last_position_is_never_given(rt: HostRuntime) {
-        assert!(rt; !is_used_up(u64::MAX - 1));
-        assert!(rt; is_used_up(u64::MAX));
     }
 }
