@@ -1,0 +1,4 @@
+//! Worked examples through the public calls.
+
+mod calls;
+mod stored_value;
