@@ -1,5 +1,5 @@
 -- What is known of the entry of an open handle, over each change to the registry.
-use Rattle.std.proofs.Common.{◌≡◌, ◌≢◌, ◌⊎◌, ℕ, ◌<◌, ◌≤◌, ◌+◌, ◌-◌, ◌^◌, ◌==◌, length, List, Bool, true, false, not, ◌&&◌, Option, Some, None, IsSomeAnd, option_map, option_and_then, min, lit≤, lit<, if◌then◌else◌, refl, sym, ap, subst, ◌∙◌, inl, inr, arith, true≢false, ne_eqb}
+use Rattle.std.proofs.Common.{◌≡◌, ◌≢◌, ◌⊎◌, ℕ, ◌<◌, ◌≤◌, ◌+◌, ◌-◌, ◌^◌, ◌==◌, length, List, Bool, true, false, not, ◌&&◌, Option, Some, None, IsSomeAnd, option_map, option_and_then, IfSome, IfNone, min, lit≤, lit<, if◌then◌else◌, refl, sym, ap, subst, ◌∙◌, inl, inr, arith, true≢false, ne_eqb}
 use Rattle.std.proofs.lemmas.Bool.{cases_Bool, cases_eq, cond-false}
 use Rattle.std.proofs.lemmas.List.{get_or_past}
 use Rattle.std.proofs.lemmas.Option.{none-some, same_Some}
@@ -259,3 +259,35 @@ module _ {T : Type 0} where
 
       pub opened-IsNamed : IsNamed now handle
       opened-IsNamed = subst (λ c. IsNamed c handle) (sym is) (ap (id_at contents) (ap (λ (h : Handle). h.path) is_found) ∙ at)
+
+    LeavesHandles-is : (new : Contents T) → now ≡ new → LeavesHandles contents new → LeavesHandles contents now
+    LeavesHandles-is new is leaves = subst (LeavesHandles contents) (sym is) leaves
+
+    pub closed-LeavesHandles : IsSound contents → (handle : Handle) → Has contents handle → now ≡ closed contents handle → LeavesHandles contents now
+    closed-LeavesHandles sound handle has is = LeavesHandles-is (closed contents handle) is (LeavesHandles-closed contents sound handle has)
+
+    pub finished-Holds : (left : T) (version : ℕ) (staged handle : Handle) → Holds contents 1 staged → now ≡ finished contents staged.id left version → handle ≡ staged → Holds now 1 handle
+    finished-Holds left version staged handle holds is same =
+        subst (λ h. Holds now 1 h) (sym same) (KeepsHandles-is (finished contents staged.id left version) is (KeepsHandles-finished contents staged.id left version) 1 staged (lit< tt) (lit< tt) holds)
+
+    -- what an opening or creation leaves, by what the path stood for
+    module _ (sound : IsSound contents) (path : List ℕ) (version : ℕ) (is_owner : Bool) (handle : Handle) {P : Type 0} (left_of_new : P → (left : T) × (now ≡ created contents path left version)) where
+      abbrev Stands : Type 0
+      Stands = Holds now 1 handle × IsNamed now handle × JoinsHandles contents now handle
+
+      joins_nobody : id_at contents path ≡ None → handle ≡ new_handle contents path is_owner → JoinsHandles contents now handle
+      joins_nobody free is_new other holds named same_path = absurd (none-some other.id (sym free ∙ ap (id_at contents) (sym (same_path ∙ ap (λ (h : Handle). h.path) is_new)) ∙ named))
+
+      stands_by : (at : Option ℕ) → id_at contents path ≡ at → IfSome at (λ id. (now ≡ opened contents id) × (handle ≡ found_handle path id)) → IfNone at (P × (handle ≡ new_handle contents path is_owner)) → Stands
+      stands_by None free found made =
+          let left = left_of_new made.0 in
+          (created-Holds path left.0 version is_owner handle left.1 made.1, created-IsNamed path left.0 version is_owner handle left.1 made.1, joins_nobody free made.1)
+      stands_by (Some id) at found made =
+          let same : handle.id ≡ id = ap (λ (h : Handle). h.id) found.1 in
+          let at_id : id_at contents path ≡ Some handle.id = at ∙ ap Some (sym same) in
+          let is : now ≡ opened contents handle.id = found.0 ∙ ap (opened contents) (sym same) in
+          let is_found : handle ≡ found_handle path handle.id = found.1 ∙ ap (found_handle path) (sym same) in
+          (opened-Holds sound path handle at_id is is_found, opened-IsNamed sound path handle at_id is is_found, opened-JoinsHandles sound path handle at_id is is_found)
+
+      pub stands : IfSome (id_at contents path) (λ id. (now ≡ opened contents id) × (handle ≡ found_handle path id)) → IfNone (id_at contents path) (P × (handle ≡ new_handle contents path is_owner)) → Stands
+      stands found made = stands_by (id_at contents path) refl found made
