@@ -100,9 +100,10 @@ module _ {T : Type 0} where
     -- a new entry
     pub Holds-new : (path : List ℕ) (value : T) (version : ℕ) (is_owner : Bool) → Holds (created contents path value version) 1 (new_handle contents path is_owner)
     Holds-new path value version is_owner =
-        let makes = created-MakesEntry contents path value version in
-        (subst (λ o. IsSomeAnd o (λ (entry : Entry T). entry.path ≡ path)) (sym makes.entry) refl,
-        subst (λ o. IsSomeAnd o (λ (entry : Entry T). 1 ≤ entry.holders)) (sym makes.entry) (lit≤ tt))
+        let makes = created-MakesEntry contents path value version in (
+          subst (λ o. IsSomeAnd o (λ (entry : Entry T). entry.path ≡ path)) (sym makes.entry) refl,
+          subst (λ o. IsSomeAnd o (λ (entry : Entry T). 1 ≤ entry.holders)) (sym makes.entry) (lit≤ tt),
+        )
 
     pub IsNamed-new : (path : List ℕ) (value : T) (version : ℕ) (is_owner : Bool) → IsNamed (created contents path value version) (new_handle contents path is_owner)
     IsNamed-new path value version is_owner = let makes = created-MakesEntry contents path value version in makes.name
@@ -111,19 +112,21 @@ module _ {T : Type 0} where
     KeepsHandles-same count handle some small holds = holds
 
     pub KeepsHandles-created : (path : List ℕ) (value : T) (version : ℕ) → KeepsHandles contents (created contents path value version)
-    KeepsHandles-created path value version count handle some small holds =
-        (Has-created contents path value version handle holds.0,
-        holders-same contents (created contents path value version) count handle.id holds.1
-        (let leaves = created-LeavesOthers contents path value version in leaves.entries handle.id
-        (λ same.
-        let none : entry_of contents handle.id ≡ None = ap kept (get_or_past contents.slots handle.id Ended (omega arith)) in
-        subst (λ o. IsSomeAnd o (λ entry. entry.path ≡ handle.path)) none holds.0)))
+    KeepsHandles-created path value version count handle some small holds = (
+      Has-created contents path value version handle holds.0,
+      holders-same contents (created contents path value version) count handle.id holds.1
+          (let leaves = created-LeavesOthers contents path value version in leaves.entries handle.id
+          (λ same.
+          let none : entry_of contents handle.id ≡ None = ap kept (get_or_past contents.slots handle.id Ended (omega arith)) in
+          subst (λ o. IsSomeAnd o (λ entry. entry.path ≡ handle.path)) none holds.0)),
+    )
 
     -- an opening
     pub KeepsHandles-opened : (id : ℕ) → KeepsHandles contents (opened contents id)
-    KeepsHandles-opened id count handle some small holds =
-        (Has-ChangesEntry contents (opened contents id) handle holds.0 id one_holder_more (λ entry. refl) (opened-ChangesEntry contents id),
-        holders-ChangesEntry contents (opened contents id) count handle.id holds.1 id one_holder_more (λ entry. more_than count entry small) (opened-ChangesEntry contents id))
+    KeepsHandles-opened id count handle some small holds = (
+      Has-ChangesEntry contents (opened contents id) handle holds.0 id one_holder_more (λ entry. refl) (opened-ChangesEntry contents id),
+      holders-ChangesEntry contents (opened contents id) count handle.id holds.1 id one_holder_more (λ entry. more_than count entry small) (opened-ChangesEntry contents id),
+    )
 
     one_more_holds : (count id : ℕ) → count + 1 < 2 ^ 64 → HasHolders contents count id → HasHolders (opened contents id) (count + 1) id
     one_more_holds count id small has =
@@ -141,9 +144,10 @@ module _ {T : Type 0} where
     module _ (sound : IsSound contents) where
       pub Holds-found : (path : List ℕ) (id : ℕ) → id_at contents path ≡ Some id → Holds (opened contents id) 1 (found_handle path id)
       Holds-found path id at =
-          let has = sound.named path id at in
-          (Has-ChangesEntry contents (opened contents id) (found_handle path id) has id one_holder_more (λ entry. refl) (opened-ChangesEntry contents id),
-          one_more_holds 0 id (lit< tt) (any_holders _ (entry_of contents id) has))
+          let has = sound.named path id at in (
+            Has-ChangesEntry contents (opened contents id) (found_handle path id) has id one_holder_more (λ entry. refl) (opened-ChangesEntry contents id),
+            one_more_holds 0 id (lit< tt) (any_holders _ (entry_of contents id) has),
+          )
 
       pub JoinsHandles-found : (path : List ℕ) (id : ℕ) → id_at contents path ≡ Some id → JoinsHandles contents (opened contents id) (found_handle path id)
       JoinsHandles-found path id at other holds named same_path =
@@ -155,9 +159,10 @@ module _ {T : Type 0} where
 
       -- a removal
       pub KeepsHandles-removed : (path : List ℕ) → KeepsHandles contents (removed contents path)
-      KeepsHandles-removed path count handle some small holds =
-          (Has-TakesName contents (removed contents path) handle holds.0 path (λ at. held contents handle.id count some holds.1) (removed-TakesName contents sound path),
-          holders-TakesName contents (removed contents path) count handle.id holds.1 path some (removed-TakesName contents sound path))
+      KeepsHandles-removed path count handle some small holds = (
+        Has-TakesName contents (removed contents path) handle holds.0 path (λ at. held contents handle.id count some holds.1) (removed-TakesName contents sound path),
+        holders-TakesName contents (removed contents path) count handle.id holds.1 path some (removed-TakesName contents sound path),
+      )
 
       pub KeepsHandles-name_removed : (settings : Settings) (name : List ℕ) → KeepsHandles contents (name_removed contents settings name)
       KeepsHandles-name_removed settings name =
@@ -170,19 +175,20 @@ module _ {T : Type 0} where
       pub LeavesHandles-closed : (closing : Handle) → Has contents closing → LeavesHandles contents (closed contents closing)
       LeavesHandles-closed closing has count handle some holds =
           let at = has_entry contents closing has in
-          let goes = closed-LetsGo contents sound closing at.0 at.1 in
-          (Has-LetsGo contents (closed contents closing) handle holds.0 closing at.0 at.1
-          (λ same. shared contents handle.id (count - 1) (subst (λ n. HasHolders contents n handle.id) (omega arith) holds.1)) goes,
-          elim (cases_eq handle.id closing.id) [
-            | inl same ↦
-                let there : entry_of contents handle.id ≡ Some at.0 = ap (entry_of contents) same ∙ at.1 in
-                let many : count + 1 ≤ at.0.holders = subst (λ o. IsSomeAnd o (λ (entry : Entry T). count + 1 ≤ entry.holders)) there holds.1 in
-                let left : count ≤ one_less at.0.holders = less_than count at.0.holders many in
-                let stays = goes.stays (inl (omega arith)) in
-                subst (λ o. IsSomeAnd o (λ (entry : Entry T). count ≤ entry.holders)) (sym (ap (entry_of (closed contents closing)) same ∙ stays)) left
-            | inr apart ↦
-                holders-same contents (closed contents closing) count handle.id (holders-weaker contents handle.id (count + 1) count (omega arith) holds.1) (goes.others.entries handle.id apart)
-          ])
+          let goes = closed-LetsGo contents sound closing at.0 at.1 in (
+            Has-LetsGo contents (closed contents closing) handle holds.0 closing at.0 at.1
+                (λ same. shared contents handle.id (count - 1) (subst (λ n. HasHolders contents n handle.id) (omega arith) holds.1)) goes,
+            elim (cases_eq handle.id closing.id) [
+              | inl same ↦
+                  let there : entry_of contents handle.id ≡ Some at.0 = ap (entry_of contents) same ∙ at.1 in
+                  let many : count + 1 ≤ at.0.holders = subst (λ o. IsSomeAnd o (λ (entry : Entry T). count + 1 ≤ entry.holders)) there holds.1 in
+                  let left : count ≤ one_less at.0.holders = less_than count at.0.holders many in
+                  let stays = goes.stays (inl (omega arith)) in
+                  subst (λ o. IsSomeAnd o (λ (entry : Entry T). count ≤ entry.holders)) (sym (ap (entry_of (closed contents closing)) same ∙ stays)) left
+              | inr apart ↦
+                  holders-same contents (closed contents closing) count handle.id (holders-weaker contents handle.id (count + 1) count (omega arith) holds.1) (goes.others.entries handle.id apart)
+            ],
+          )
 
     -- a close of a handle that isn't the owner leaves its name and its value
     let_go_value : (slot : Slot T) → option_map (λ (entry : Entry T). entry.value) (kept (left_of true (let_go slot))) ≡ option_map (λ (entry : Entry T). entry.value) (kept slot)
@@ -193,7 +199,7 @@ module _ {T : Type 0} where
     value-closed handle named guest =
         let left : Bool → Contents T = λ has_name. with_slot contents handle.id (left_of has_name (let_go (slot_of contents handle.id))) in
         let as_guest : closed contents handle ≡ left (is_named contents handle && not false) =
-            ap (λ owner. with_slot (if owner then disowned contents handle else contents) handle.id (left_of (is_named contents handle && not owner) (let_go (slot_of contents handle.id)))) guest in
+        ap (λ owner. with_slot (if owner then disowned contents handle else contents) handle.id (left_of (is_named contents handle && not owner) (let_go (slot_of contents handle.id)))) guest in
         let as_named : left (is_named contents handle && not false) ≡ left true = ap (λ has_name. left (has_name && not false)) (is_id-same (id_at contents handle.path) handle.id named) in
         ap (λ now. value_at now handle.path) (as_guest ∙ as_named)
         ∙ ap (λ found. option_map (λ (entry : Entry T). entry.value) (option_and_then (entry_of (left true)) found)) named
@@ -202,19 +208,22 @@ module _ {T : Type 0} where
 
     -- a value that is written, a version that is set, and an entry that is finished
     pub KeepsHandles-with_value : (id : ℕ) (value : T) → KeepsHandles contents (with_value contents id value)
-    KeepsHandles-with_value id value count handle some small holds =
-        (Has-ChangesEntry contents _ handle holds.0 id _ (λ entry. refl) (with_value-ChangesEntry contents id value),
-        holders-ChangesEntry contents _ count handle.id holds.1 id _ (λ entry h. h) (with_value-ChangesEntry contents id value))
+    KeepsHandles-with_value id value count handle some small holds = (
+      Has-ChangesEntry contents _ handle holds.0 id _ (λ entry. refl) (with_value-ChangesEntry contents id value),
+      holders-ChangesEntry contents _ count handle.id holds.1 id _ (λ entry h. h) (with_value-ChangesEntry contents id value),
+    )
 
     pub KeepsHandles-version_set : (path : List ℕ) (version : ℕ) → KeepsHandles contents (version_set contents path version)
-    KeepsHandles-version_set path version count handle some small holds =
-        (Has-ChangesNamedEntry contents _ handle holds.0 path _ (λ entry. refl) (version_set-ChangesNamedEntry contents path version),
-        holders-ChangesNamedEntry contents _ count handle.id holds.1 path _ (λ entry h. h) (version_set-ChangesNamedEntry contents path version))
+    KeepsHandles-version_set path version count handle some small holds = (
+      Has-ChangesNamedEntry contents _ handle holds.0 path _ (λ entry. refl) (version_set-ChangesNamedEntry contents path version),
+      holders-ChangesNamedEntry contents _ count handle.id holds.1 path _ (λ entry h. h) (version_set-ChangesNamedEntry contents path version),
+    )
 
     pub KeepsHandles-finished : (id : ℕ) (value : T) (version : ℕ) → KeepsHandles contents (finished contents id value version)
-    KeepsHandles-finished id value version count handle some small holds =
-        (Has-ChangesEntry contents _ handle holds.0 id _ (λ entry. refl) (finished-ChangesEntry contents id value version),
-        holders-ChangesEntry contents _ count handle.id holds.1 id _ (λ entry h. h) (finished-ChangesEntry contents id value version))
+    KeepsHandles-finished id value version count handle some small holds = (
+      Has-ChangesEntry contents _ handle holds.0 id _ (λ entry. refl) (finished-ChangesEntry contents id value version),
+      holders-ChangesEntry contents _ count handle.id holds.1 id _ (λ entry h. h) (finished-ChangesEntry contents id value version),
+    )
 
     pub value-with_value : (id : ℕ) (value : T) (P : Entry T → Type 0) → IsSomeAnd (entry_of contents id) P → value_of (with_value contents id value) id ≡ Some value
     value-with_value id value P has =

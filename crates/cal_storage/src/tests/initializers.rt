@@ -1,5 +1,6 @@
 //! What an initializer is shown, and what it leaves.
 ghost use Rattle.std.specs.Prelude.{IsTrue};
+
 use super::calls::open;
 use crate::{DynamicStorage, DynamicStorageBuilder, Registry, file, process_local};
 use cal_alloc::{BumpAllocator, Layout, ShmAllocationError, ShmAllocator};
@@ -16,7 +17,10 @@ fn has_room_for_16(allocator: &mut BumpAllocator) -> bool
         return false;
     };
     allocator.allocate(sixteen).is_ok()
-        && matches!(allocator.allocate(one), Err(ShmAllocationError::OutOfMemory))
+        && matches!(
+            allocator.allocate(one),
+            Err(ShmAllocationError::OutOfMemory)
+        )
 }
 
 /// An initializer changes the value, and has as much room as the builder was told.

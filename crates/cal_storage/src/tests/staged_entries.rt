@@ -12,10 +12,7 @@ use cal_names::{FileName, NamedConceptBuilder, NamedConceptConfiguration};
 use std::test::Fail;
 
 /// Begins the storage of this name.
-fn begin(
-    reg: &mut Registry<i64>,
-    name: &FileName,
-) -> Result<Staged<i64>, DynamicStorageCreateError>
+fn begin(reg: &mut Registry<i64>, name: &FileName) -> Result<Staged<i64>, DynamicStorageCreateError>
     ensures holds { IfOk result (λ staged. Holds reg.new 1 staged.handle) }
     ensures unchanged { OnErr result (reg.new ≡ reg.old) }
 {
@@ -45,7 +42,10 @@ fn an_entry_is_opened_once_it_is_finished(rt: HostRuntime) -> Result<(), Fail> {
     let mut reg = Registry::new(rt.alloc());
     let staged = begin(&mut reg, &name)?;
     let error = opening_error::<Storage<i64>>(&mut reg, &name)?;
-    assert_eq!(rt; error, DynamicStorageOpenError::InitializationNotYetFinalized);
+    assert_eq!(rt;
+        error,
+        DynamicStorageOpenError::InitializationNotYetFinalized
+    );
     let _storage = finish(&mut reg, staged, true)?;
     let opened = open::<Storage<i64>>(&mut reg, &name)?;
     assert_eq!(rt; *opened.get(&reg), 873);
@@ -74,7 +74,10 @@ fn a_refused_value_frees_its_path(rt: HostRuntime) -> Result<(), Fail> {
     let mut reg = Registry::new(rt.alloc());
     let staged = begin(&mut reg, &name)?;
     let finished = finish(&mut reg, staged, false);
-    assert_eq!(rt; finished.err(), Some(DynamicStorageCreateError::InitializationFailed));
+    assert_eq!(rt;
+        finished.err(),
+        Some(DynamicStorageCreateError::InitializationFailed)
+    );
     assert_eq!(rt; reg.len(), 0);
     let again = make::<Storage<i64>>(&mut reg, &name, 456, true)?;
     assert_eq!(rt; *again.get(&reg), 456);
@@ -86,7 +89,10 @@ fn an_entry_is_finished_without_its_name(rt: HostRuntime) -> Result<(), Fail> {
     let name = FileName::new(b"myDynStorage").ok_or("a file name")?;
     let mut reg = Registry::new(rt.alloc());
     let staged = begin(&mut reg, &name)?;
-    assert_eq!(rt; remove::<Storage<i64>>(rt.alloc(), &mut reg, &name), Ok(true));
+    assert_eq!(rt;
+        remove::<Storage<i64>>(rt.alloc(), &mut reg, &name),
+        Ok(true)
+    );
     let storage = finish(&mut reg, staged, true)?;
     assert_eq!(rt; *storage.get(&reg), 873);
     assert_eq!(rt; reg.len(), 0);

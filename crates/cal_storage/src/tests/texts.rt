@@ -92,11 +92,21 @@ fn an_inner_error_becomes_the_variant_of_its_name(rt: HostRuntime) -> Result<(),
 fn a_storage_and_a_registry_are_shown(rt: HostRuntime) -> Result<(), Fail> {
     let mut reg = Registry::<i64>::new(rt.alloc());
     let text = format!(in rt.alloc(); "{reg:?}")?;
-    assert_eq!(rt; text.as_str(), "Registry { alloc: Global, names: {}, slots: [] }");
+    assert_eq!(rt;
+        text.as_str(),
+        "Registry { alloc: Global, names: {}, slots: [] }"
+    );
     let name = FileName::new(b"a").ok_or("a file name")?;
     let made = process_local::Builder::<i64>::new(&name).create(&mut reg, 1, |_, _| true)?;
     let text = format!(in rt.alloc(); "{made:?}")?;
-    assert!(rt; text.as_str().starts_with("Storage { name: FileName { bytes: \"a\" }, handle: Handle { id: 0, path: FilePath { bytes: \"/tmp/iox2_"));
-    assert!(rt; text.as_str().ends_with("_a.dyn\" }, is_owner: true }, of: PhantomData<_> }"));
+    assert!(rt;
+        text.as_str().starts_with(
+            "Storage { name: FileName { bytes: \"a\" }, handle: Handle { id: 0, path: FilePath { bytes: \"/tmp/iox2_"
+        )
+    );
+    assert!(rt;
+        text.as_str()
+            .ends_with("_a.dyn\" }, is_owner: true }, of: PhantomData<_> }")
+    );
     Ok(())
 }
