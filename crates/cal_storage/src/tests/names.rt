@@ -4,7 +4,7 @@ use crate::{
     DynamicStorage, DynamicStorageBuilder, DynamicStorageCreateError, DynamicStorageOpenError,
     DynamicStorageOpenOrCreateError, Registry, file, process_local,
 };
-use cal_names::{FileName, FilePath, NamedConceptBuilder, NamedConceptConfiguration};
+use cal_names::{FileName, FilePath, NamedConcept, NamedConceptBuilder, NamedConceptConfiguration};
 use std::alloc::Global;
 use std::process::Abort;
 use std::test::Fail;
@@ -117,4 +117,27 @@ fn a_path_is_there<S: DynamicStorage<i64>>(rt: &impl Abort, alloc: Global) -> Re
 fn paths_are_there(rt: HostRuntime) -> Result<(), Fail> {
     a_path_is_there::<process_local::Storage<i64>>(&rt, rt.alloc())?;
     a_path_is_there::<file::Storage<i64>>(&rt, rt.alloc())
+}
+
+/// A storage has the name of its builder, and its kind has a suffix.
+fn a_storage_has_its_name<S: DynamicStorage<i64>>(
+    rt: &impl Abort,
+    alloc: Global,
+) -> Result<(), Fail> {
+    let name = FileName::new(b"myDynStorage").ok_or("a file name")?;
+    let mut reg = Registry::new(alloc);
+    let made = S::Builder::new(&name)
+        .call_drop_on_destruction(false)
+        .timeout(3)
+        .create(&mut reg, 444, |_, _| true)?;
+    assert_eq!(rt; *made.name(), name);
+    assert_eq!(rt; S::default_suffix().as_bytes(), b".dyn".as_slice());
+    assert!(rt; S::does_support_persistency());
+    Ok(())
+}
+
+#[test]
+fn storages_have_their_names(rt: HostRuntime) -> Result<(), Fail> {
+    a_storage_has_its_name::<process_local::Storage<i64>>(&rt, rt.alloc())?;
+    a_storage_has_its_name::<file::Storage<i64>>(&rt, rt.alloc())
 }
