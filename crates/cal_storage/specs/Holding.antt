@@ -1,4 +1,4 @@
--- What is said of the entry of a handle that is open.
+-- What is said of the entry of a handle that is open, in the contracts of the tests.
 use Rattle.std.specs.Prelude.{◌≡◌, ℕ, ◌<◌, ◌≤◌, ◌+◌, ◌^◌, Option, Some, IsSomeAnd, List}
 use Rattle.std.specs.Option.{option_map}
 use Rattle.cal_storage.specs.Contents.{Contents, Handle, Has, id_at, entry_at, entry_of}

@@ -14,8 +14,8 @@ use cal_names::{FileName, NamedConceptBuilder, NamedConceptRemoveError};
 use std::alloc::Global;
 use std::test::Fail;
 
-/// A registry is sound, as its own clauses say.
-pub fn is_sound(reg: &Registry<i64>)
+/// Does nothing, and says what each registry keeps.
+pub fn recall_soundness(reg: &Registry<i64>)
     ensures { IsSound reg.now }
 {
     let _count = reg.len();
@@ -87,7 +87,7 @@ pub fn open<S: DynamicStorage<i64>>(
     ensures keeps { KeepsHandles reg.old reg.new }
     ensures unchanged { OnErr result (reg.new ≡ reg.old) }
 {
-    is_sound(reg);
+    recall_soundness(reg);
     let storage = builder::<S>(name, true).open(reg, AccessMode::ReadWrite)?;
     Ok(storage)
 }
@@ -117,7 +117,7 @@ pub fn open_or_create<S: DynamicStorage<i64>>(
     ensures joins { IfOk result (λ storage. JoinsHandles reg.old reg.new (S.handle storage)) }
     ensures path { IfOk result (λ storage. (S.handle storage).path ≡ file_path_for S.Configuration.initial name.now) }
 {
-    is_sound(reg);
+    recall_soundness(reg);
     let storage = builder::<S>(name, true).open_or_create(reg, value, |_, _| answer)?;
     Ok(storage)
 }
@@ -138,7 +138,7 @@ pub fn remove<S: DynamicStorage<i64>>(
 ) -> Result<bool, NamedConceptRemoveError>
     ensures { KeepsHandles reg.old reg.new }
 {
-    is_sound(reg);
+    recall_soundness(reg);
     let is_found = S::remove(alloc, reg, name)?;
     Ok(is_found)
 }
@@ -148,6 +148,6 @@ pub fn close<S: DynamicStorage<i64>>(reg: &mut Registry<i64>, storage: S)
     requires { Has reg.old (S.handle storage) }
     ensures { LeavesHandles reg.old reg.new }
 {
-    is_sound(reg);
+    recall_soundness(reg);
     storage.close(reg);
 }
