@@ -2,6 +2,7 @@ pub mod ChangeParts
 pub mod Entering
 pub mod EntryLaws
 pub mod HandleLaws
+pub mod Holding
 pub mod Keeping
 pub mod LaterLaws
 pub mod NameLists

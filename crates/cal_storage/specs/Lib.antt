@@ -3,6 +3,7 @@ pub mod Contents
 pub mod ContentsLaws
 pub mod Examples
 pub mod Finishing
+pub mod Holding
 pub mod Initializer
 pub mod Managing
 pub mod OpenHandles

@@ -20,3 +20,6 @@ pub use dynamic_storage::{
 };
 pub use registry::Registry;
 pub use shared_registry::SharedRegistry;
+
+#[cfg(test)]
+mod tests;
