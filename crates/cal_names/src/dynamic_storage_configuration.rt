@@ -22,6 +22,7 @@ pub trait DynamicStorageConfiguration: NamedConceptConfiguration {
     /// The path that stands for a name.
     fn path_for_with_type(&self, value: &FileName) -> Result<FilePath, PathTooLong>
         ensures fits { IsOk result ↔ (length (file_name_for (Self.settings self.now) value.now) ≤ 255) }
+        ensures rule { IfOk result IsFilePath }
         ensures path { IfOk result (λ path. path ≡ file_path_for (Self.settings self.now) value.now) }
         ensures inverse { (other : List ℕ) → IsFilePath other →
             (extracted_name_at (Self.settings self.now) other ≡ Some value.now)

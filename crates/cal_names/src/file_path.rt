@@ -48,6 +48,7 @@ impl FilePath {
 
     /// The file path of this file name at this path.
     pub fn from_parts(path: &Path, file: &FileName) -> FilePath
+        ensures rule { IsFilePath result }
         ensures bytes { result ≡ file_path_of path.now file.now }
         ensures path { path_part result ≡ path.now }
         ensures file_name { file_name_part result ≡ file.now }

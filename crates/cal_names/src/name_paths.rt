@@ -22,6 +22,7 @@ pub(crate) fn path_of_name(
 ) -> Result<FilePath, PathTooLong>
     ensures fits { let settings : Settings = settings_from prefix.now type_name suffix.now path_hint.now in
         IsOk result ↔ (length (file_name_for settings name.now) ≤ 255) }
+    ensures rule { IfOk result IsFilePath }
     ensures path { let settings : Settings = settings_from prefix.now type_name suffix.now path_hint.now in
         IfOk result (λ path. path ≡ file_path_for settings name.now) }
     ensures inverse { let settings : Settings = settings_from prefix.now type_name suffix.now path_hint.now in

@@ -114,6 +114,7 @@ pub trait NamedConceptConfiguration: Default + Clone + Copy + Debug {
     /// The path that stands for a name.
     fn path_for(&self, value: &FileName) -> Result<FilePath, PathTooLong>
         ensures fits { IsOk result ↔ (length (file_name_for (settings self.now) value.now) ≤ 255) }
+        ensures rule { IfOk result IsFilePath }
         ensures path { IfOk result (λ path. path ≡ file_path_for (settings self.now) value.now) }
         ensures inverse { (other : List ℕ) → IsFilePath other →
             (extracted_name_at (settings self.now) other ≡ Some value.now) ↔ (result ≡ Ok other) }
@@ -170,15 +171,20 @@ pub trait NamedConceptBuilder<T: NamedConceptMgmt> {
     // What its configuration holds.
     ghost concept_settings: { Self → Settings };
 
+    // Whether all that a builder has beside these is as in a new one.
+    ghost IsDefault: { Self → Type 0 };
+
     /// A builder of the concept of this name, with the default configuration.
     fn new(name: &FileName) -> Self
         ensures name { concept_name result ≡ name.now }
-        ensures settings { concept_settings result ≡ T.Configuration.initial };
+        ensures settings { concept_settings result ≡ T.Configuration.initial }
+        ensures defaults { IsDefault result };
 
     /// The builder with this configuration.
     fn config(self, config: &T::Configuration) -> Self
         ensures name { concept_name result ≡ concept_name self }
-        ensures settings { concept_settings result ≡ T.Configuration.settings config.now };
+        ensures settings { concept_settings result ≡ T.Configuration.settings config.now }
+        ensures defaults { IsDefault self → IsDefault result };
 }
 
 /// What has a file name as its name.
@@ -206,6 +212,9 @@ pub trait NamedConceptMgmt: Debug {
     // Whether a path goes away when the concept of this name is removed under a configuration.
     ghost goes_with: { Settings → List ℕ → List ℕ → Bool };
 
+    // The registry after the concept of this name was removed under a configuration.
+    ghost removed: { Settings → List ℕ → Self.Names → Self.Names };
+
     // Whether a removal lists the paths first, which takes memory.
     ghost lists_first: { Bool };
 
@@ -219,9 +228,10 @@ pub trait NamedConceptMgmt: Debug {
             found ≡ list_any (goes_with Self.Configuration.initial name.now) (paths reg.old)) }
         ensures gone { let goes : List ℕ → Bool = goes_with Self.Configuration.initial name.now in
             OnOk result (paths reg.new ≡ filter (λ path. not (goes path)) (paths reg.old)) }
+        ensures registry { OnOk result (reg.new ≡ removed Self.Configuration.initial name.now reg.old) }
         ensures no_memory { IfErr result (λ error.
             IsTrue lists_first × (error ≡ NamedConceptRemoveError.NoMemory)) }
-        ensures unchanged { OnErr result (paths reg.new ≡ paths reg.old) }
+        ensures unchanged { OnErr result (reg.new ≡ reg.old) }
     {
         Self::remove_cfg(alloc, reg, name, &Self::Configuration::default())
     }
@@ -257,9 +267,10 @@ pub trait NamedConceptMgmt: Debug {
             found ≡ list_any (goes_with (Self.Configuration.settings cfg.now) name.now) (paths reg.old)) }
         ensures gone { let goes : List ℕ → Bool = goes_with (Self.Configuration.settings cfg.now) name.now in
             OnOk result (paths reg.new ≡ filter (λ path. not (goes path)) (paths reg.old)) }
+        ensures registry { OnOk result (reg.new ≡ removed (Self.Configuration.settings cfg.now) name.now reg.old) }
         ensures no_memory { IfErr result (λ error.
             IsTrue lists_first × (error ≡ NamedConceptRemoveError.NoMemory)) }
-        ensures unchanged { OnErr result (paths reg.new ≡ paths reg.old) };
+        ensures unchanged { OnErr result (reg.new ≡ reg.old) };
 
     /// Whether the concept of this name is there, so `false` also where the path of the name would
     /// be too long.

@@ -53,12 +53,14 @@ impl Script {
         }
     }
 
+    /// The settings, which are the first line.
     pub fn settings(&self) -> &Settings
         ensures { result.now ≡ self.now.settings }
     {
         &self.settings
     }
 
+    /// The commands, in the order of their lines.
     pub fn commands(&self) -> &[Command]
         ensures { result.now ≡ self.now.commands }
     {

@@ -1,1 +1,14 @@
+pub mod CompletionAllowed
+pub mod CompletionKeeps
+pub mod CompletionSchedules
+pub mod LastValues
 pub mod Members
+pub mod OneSideEach
+pub mod Schedules
+pub mod SidedTables
+pub mod StateSteps
+pub mod StateTries
+pub mod SubmissionAllowed
+pub mod SubmissionKeeps
+pub mod SubmissionRuns
+pub mod TaggedPositions

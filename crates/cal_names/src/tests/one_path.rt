@@ -1,6 +1,6 @@
 //! A kind of concept over a registry with room for one path, managed through its bound.
-ghost use Rattle.std.specs.Prelude.{◌≡◌, None, codes, false, refl};
-ghost use Rattle.std.specs.Option.{option_to_list};
+ghost use Rattle.std.specs.Prelude.{◌≡◌, None, Some, codes, false, refl, if◌then◌else◌};
+ghost use Rattle.std.specs.Option.{option_to_list, option_and_then};
 ghost use Rattle.cal_names.specs.Settings.{extracted_name_at};
 ghost use Rattle.cal_names.specs.NamedConceptMgmt.{is_name, is_name-same};
 
@@ -98,6 +98,9 @@ impl NamedConceptMgmt for Lone {
 
     ghost goes_with = { λ settings name path. is_name name (extracted_name_at settings path) };
 
+    ghost removed = { λ settings name reg.
+        option_and_then (λ path. if is_name name (extracted_name_at settings path) then None else Some path) reg };
+
     ghost lists_first = { false };
 
     fn remove_cfg(
@@ -162,6 +165,9 @@ impl NamedConceptBuilder<Lone> for Built {
     ghost concept_name = { λ b. b.name };
 
     ghost concept_settings = { λ b. record { prefix = b.config.prefix; type_name = None; suffix = b.config.suffix; path_hint = b.config.path_hint } };
+
+    // A builder has nothing beside these.
+    ghost IsDefault = { λ _. Unit {0} };
 
     fn new(name: &FileName) -> Self {
         Built {

@@ -1,0 +1,60 @@
+//! Measures the submission ring: `cal_bench one COUNT` pushes and pops that many values on one thread, and
+//! `cal_bench two COUNT` sends them from one thread to another with overflow. Each prints the nanoseconds that it took.
+#![tactic(auto)]
+
+mod one_thread;
+mod two_threads;
+
+use anyhow::Result;
+use std::env;
+use std::rt::Env;
+use std::time::Instant;
+
+const USAGE: &str = "usage: cal_bench one COUNT | cal_bench two COUNT";
+
+/// Which measurement, and of how many values.
+#[derive(Clone, Copy)]
+enum Plan {
+    OneThread(u64),
+    TwoThreads(u64),
+}
+
+/// What the words of the command line ask for; the count is at least 1.
+fn plan_of(words: &[String]) -> Option<Plan> {
+    if words.len() != 2 {
+        return None;
+    }
+    let count: u64 = words[1].parse().ok()?;
+    match words[0].as_str() {
+        _ if count == 0 => None,
+        "one" => Some(Plan::OneThread(count)),
+        "two" => Some(Plan::TwoThreads(count)),
+        _ => None,
+    }
+}
+
+/// The words of the command line after the program's name.
+fn words_of<R: Env + AllocGlobal>(rt: &R) -> Result<Vec<String>> {
+    let mut words = env::args(rt)?;
+    let _ = words.next();
+    Ok(words.collect(rt.alloc())?)
+}
+
+fn main(rt: HostRuntime) -> Result<()> {
+    let words = words_of(&rt)?;
+    let Some(plan) = plan_of(words.as_slice()) else {
+        println!(rt; "{USAGE}")?;
+        return Ok(());
+    };
+    let start = Instant::now(&rt)?;
+    let (count, rest) = match plan {
+        Plan::OneThread(count) => (count, one_thread::push_and_pop(&rt, rt.alloc(), count)?),
+        Plan::TwoThreads(count) => (count, two_threads::send_and_take(&rt, rt.alloc(), count)?),
+    };
+    let nanoseconds = start.elapsed(&rt)?.as_nanos();
+    println!(rt;
+        "{count} sent in {nanoseconds} ns: {} received, {} returned, {} left",
+        rest.received, rest.returned, rest.left
+    )?;
+    Ok(())
+}

@@ -1,0 +1,101 @@
+//! The ring by which a receiver gives chunks back to their sender, each side in a thread of its own
+//! and without a lock. The layer above may rely on values being got in the order in which they were
+//! put, each once, on no call waiting for the other side, and on `rest_completion`, which joins
+//! both ends and says that what was got is the beginning of what was put.
+ghost use Rattle.std.specs.Prelude.{◌≡◌, ◌^◌, ◌<◌, ◌≤◌, IfOk};
+ghost use Rattle.cal_queue.specs.CompletionCalls.{AreEndsOfOneRing, get_pass, put_pass};
+ghost use Rattle.cal_queue.specs.CompletionPass.{new_get_pass, new_put_pass};
+
+mod get_seat;
+mod get_steps;
+mod getting;
+mod interleavings;
+mod meeting;
+mod pass;
+mod plays;
+mod put_seat;
+mod put_steps;
+mod putting;
+mod rest;
+mod rule;
+
+pub use get_seat::GetSeat;
+pub use interleavings::every_interleaving_is_a_schedule;
+use meeting::part;
+pub use pass::{GetPass, PutPass};
+pub use put_seat::PutSeat;
+pub use rest::{CompletionRest, rest_completion};
+use rule::RingTable;
+use std::alloc::{AllocError, Global};
+use std::sync::Arc;
+
+/// The maker of a ring's two ends. No value of it is needed.
+#[derive(Debug, Clone, Copy)]
+pub struct CompletionRing;
+
+impl CompletionRing {
+    /// A ring in which at most `capacity` values wait, with the end that puts values in and the end
+    /// that gets them out. The error is want of memory.
+    pub fn new(alloc: Global, capacity: usize) -> Result<(PutSeat, GetSeat), AllocError>
+        requires some_room { 1 ≤ capacity }
+        requires countable { capacity < 2 ^ 32 }
+        ensures put { IfOk result (λ ends. put_pass ends.0 ≡ new_put_pass capacity) }
+        ensures get { IfOk result (λ ends. get_pass ends.1 ≡ new_get_pass capacity) }
+        ensures one_ring { IfOk result (λ ends. AreEndsOfOneRing ends.0 ends.1) }
+    {
+        let words = vec![in alloc; 0; capacity + 2]?;
+        let capacity = capacity as u64;
+        let (table, mut seat) = RingTable::of_words(alloc, words.as_slice(), &capacity)?;
+        let other = part(&table, &mut seat);
+        let table = Arc::new(alloc, table)?;
+        let shared = Arc::try_clone(&table)?;
+        let put = PutSeat {
+            table,
+            seat,
+            capacity,
+            written: 0,
+        };
+        let get = GetSeat {
+            table: shared,
+            seat: other,
+            capacity,
+            read: 0,
+        };
+        Ok((put, get))
+    }
+}
+
+#[cfg(test)]
+mod tests {
+    use super::*;
+    use crate::push_refusal::PushRefusal;
+    use std::test::Fail;
+
+    #[test]
+    fn a_full_ring_refuses_a_value(rt: HostRuntime) -> Result<(), Fail> {
+        let (mut put, mut get) = CompletionRing::new(rt.alloc(), 1)?;
+        assert_eq!(rt; put.push(7), Ok(()));
+        assert_eq!(rt; put.push(8), Err(PushRefusal::Full));
+        assert_eq!(rt; get.pop(), Some(7));
+        assert_eq!(rt; get.pop(), None);
+        let rest = rest_completion(put, get);
+        assert_eq!(rt; (rest.put, rest.got, rest.left), (1, 1, 0));
+        Ok(())
+    }
+
+    #[test]
+    fn the_oldest_value_comes_first(rt: HostRuntime) -> Result<(), Fail> {
+        let (mut put, mut get) = CompletionRing::new(rt.alloc(), 3)?;
+        assert_eq!(rt; put.push(1), Ok(()));
+        assert_eq!(rt; put.push(2), Ok(()));
+        assert_eq!(rt; get.pop(), Some(1));
+        assert_eq!(rt; put.push(3), Ok(()));
+        assert_eq!(rt; put.push(4), Ok(()));
+        assert_eq!(rt; put.push(5), Err(PushRefusal::Full));
+        assert_eq!(rt; get.pop(), Some(2));
+        assert_eq!(rt; get.pop(), Some(3));
+        let rest = rest_completion(put, get);
+        assert_eq!(rt; (rest.put, rest.got, rest.left), (4, 3, 1));
+        Ok(())
+    }
+}

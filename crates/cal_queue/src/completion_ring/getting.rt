@@ -1,0 +1,45 @@
+//! The call of the getting end: two loads and a store, which take no memory and wait for nobody.
+ghost use Rattle.std.specs.Prelude.{◌≡◌, ◌+◌, ◌-◌, ◌^◌, ◌<◌, ◌≤◌, length, IfSome, IfNone};
+
+use super::get_seat::GetSeat;
+use super::get_steps::{load_write, take};
+use super::putting::slot_of;
+
+impl GetSeat {
+    ghost use Rattle.cal_queue.specs.CompletionPass.{loaded_slot, loaded_write, stored_read};
+    ghost use Rattle.cal_queue.specs.CompletionCalls.{Gets, SameGetEnd, SeesEmpty, get_pass};
+
+    fn look(&mut self) -> u64
+        ensures same_end { SameGetEnd self.old self.new }
+        ensures one_load { get_pass self.new ≡ loaded_write result (get_pass self.old) }
+        ensures within { length (get_pass self.old).got ≤ result }
+    {
+        load_write(&self.table, &mut self.seat)
+    }
+
+    // Gets the oldest value where the last look showed that one waits.
+    fn get(&mut self) -> u64
+        requires waits { length (get_pass self.old).got < (get_pass self.old).seen_write }
+        requires counts { length (get_pass self.old).got < 2 ^ 64 - 1 }
+        ensures same_end { SameGetEnd self.old self.new }
+        ensures got { get_pass self.new ≡ stored_read (loaded_slot result (get_pass self.old)) }
+    {
+        let slot = slot_of(self.capacity, self.read);
+        let value = take(&self.table, &mut self.seat, slot, self.read);
+        self.read += 1;
+        value
+    }
+
+    /// Gets the oldest value, if one waits.
+    pub fn pop(&mut self) -> Option<u64>
+        ensures same_end { SameGetEnd self.old self.new }
+        ensures got { IfSome result (λ value. Gets value (get_pass self.old) (get_pass self.new)) }
+        ensures none { IfNone result (SeesEmpty (get_pass self.old) (get_pass self.new)) }
+    {
+        let written = self.look();
+        if written == self.read {
+            return None;
+        }
+        Some(self.get())
+    }
+}

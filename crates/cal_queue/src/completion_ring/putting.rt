@@ -1,0 +1,63 @@
+//! The call of the putting end: one load and two stores, which take no memory and wait for nobody.
+ghost use Rattle.std.specs.Prelude.{◌≡◌, ◌+◌, ◌-◌, ◌^◌, ◌<◌, ◌≤◌, ◌↔◌, length, OnErr, OnOk, Err};
+ghost use Rattle.cal_queue.specs.CompletionRule.{slot_of};
+
+use super::put_seat::PutSeat;
+use super::put_steps::{append, load_read};
+use crate::positions::is_used_up;
+use crate::push_refusal::PushRefusal;
+
+// The word of a position's slot.
+pub(super) fn slot_of(capacity: u64, position: u64) -> usize
+    requires { (1 ≤ capacity) × (capacity < 2 ^ 32) }
+    ensures { result ≡ slot_of capacity position }
+{
+    (position % capacity) as usize + 2
+}
+
+impl PutSeat {
+    ghost use Rattle.cal_queue.specs.CompletionPass.{loaded_read, stored_slot, stored_write};
+    ghost use Rattle.cal_queue.specs.CompletionCalls.{Puts, SamePutEnd, SeesFull, put_pass};
+    ghost use Rattle.cal_queue.specs.declared.push_refusal.PushRefusal.TheVariants.{Full, PositionsUsedUp};
+
+    fn look(&mut self) -> u64
+        ensures same_end { SamePutEnd self.old self.new }
+        ensures one_load { put_pass self.new ≡ loaded_read result (put_pass self.old) }
+        ensures within { result ≤ length (put_pass self.old).put }
+        ensures room { length (put_pass self.old).put ≤ result + (put_pass self.old).capacity }
+    {
+        load_read(&self.table, &mut self.seat)
+    }
+
+    // Puts a value where the last look showed room.
+    fn put(&mut self, value: u64)
+        requires room { length (put_pass self.old).put < (put_pass self.old).seen_read + (put_pass self.old).capacity }
+        requires counts { length (put_pass self.old).put < 2 ^ 64 - 1 }
+        ensures same_end { SamePutEnd self.old self.new }
+        ensures put { put_pass self.new ≡ stored_write (stored_slot value (put_pass self.old)) }
+    {
+        let slot = slot_of(self.capacity, self.written);
+        append(&self.table, &mut self.seat, slot, self.written, value);
+        self.written += 1;
+    }
+
+    /// Puts a value behind all others. After a refusal the ring is as before.
+    pub fn push(&mut self, value: u64) -> Result<(), PushRefusal>
+        ensures same_end { SamePutEnd self.old self.new }
+        ensures put { OnOk result (Puts value (put_pass self.old) (put_pass self.new)) }
+        ensures refused { OnErr result ((put_pass self.new).put ≡ (put_pass self.old).put) }
+        ensures full { result ≡ Err Full → SeesFull (put_pass self.old) (put_pass self.new) }
+        ensures used_up { (result ≡ Err PositionsUsedUp) ↔ (length (put_pass self.old).put ≡ 2 ^ 64 - 1) }
+        ensures untouched { result ≡ Err PositionsUsedUp → put_pass self.new ≡ put_pass self.old }
+    {
+        if is_used_up(self.written) {
+            return Err(PushRefusal::PositionsUsedUp);
+        }
+        let read = self.look();
+        if self.written - read == self.capacity {
+            return Err(PushRefusal::Full);
+        }
+        self.put(value);
+        Ok(())
+    }
+}

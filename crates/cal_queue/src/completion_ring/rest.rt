@@ -1,0 +1,44 @@
+//! A ring at rest: both ends come together, and their counts are compared.
+ghost use Rattle.std.specs.Prelude.{◌≡◌, ◌+◌, length, take};
+ghost use Rattle.cal_queue.specs.CompletionCalls.{AreEndsOfOneRing, get_pass, put_pass};
+ghost use Rattle.cal_queue.specs.CompletionRule.{IsCompleted};
+
+use super::get_seat::GetSeat;
+use super::meeting::meet;
+use super::put_seat::PutSeat;
+
+/// How many values were put, how many of them were got, and how many are left.
+#[derive(Debug, Clone, Copy, PartialEq, Eq)]
+pub struct CompletionRest {
+    pub put: usize,
+    pub got: usize,
+    pub left: usize,
+}
+
+/// Takes both ends of a ring, and counts what went through it.
+pub fn rest_completion(put: PutSeat, get: GetSeat) -> CompletionRest
+    requires { AreEndsOfOneRing put get }
+    ensures put { result.put ≡ length (put_pass put).put }
+    ensures got { result.got ≡ length (get_pass get).got }
+    ensures left { result.got + result.left ≡ result.put }
+    ensures got_first { (get_pass get).got ≡ take result.got (put_pass put).put }
+    ensures completed { IsCompleted (put_pass put).capacity (put_pass put).put result.got }
+{
+    let PutSeat {
+        table,
+        mut seat,
+        written,
+        ..
+    } = put;
+    let GetSeat {
+        seat: other,
+        read,
+        ..
+    } = get;
+    meet(&table, &mut seat, other);
+    CompletionRest {
+        put: written as usize,
+        got: read as usize,
+        left: (written - read) as usize,
+    }
+}

@@ -1,0 +1,38 @@
+//! The rule that every step at a state table keeps, and what a step tells its seat.
+ghost use Rattle.cal_queue.specs.StateRule.{Kept, Loads, Exchanges};
+ghost use Rattle.cal_queue.specs.StateTable.{fresh};
+
+use super::{OpeningWords, StatePass};
+use atomic_table::{Play, Split, Table, TableRule};
+use std::alloc::Global;
+
+pub(super) type StateWords = Table<(), StatePass, OpeningWords, StateRule, Global>;
+
+pub struct StateRule;
+
+impl TableRule<(), StatePass, OpeningWords> for StateRule {
+    ghost holds = { λ opening s. Kept opening s.words s.views };
+
+    ghost first = { fresh };
+}
+
+// The other side begins with no steps.
+pub(super) struct SecondSeat;
+
+impl Split<StatePass> for SecondSeat {
+    ghost left = { λ p. p };
+
+    ghost right = { λ p. fresh p.opening };
+}
+
+pub(super) struct Load;
+
+impl Play<(), StatePass> for Load {
+    ghost then = { Loads };
+}
+
+pub(super) struct Exchange;
+
+impl Play<(), StatePass> for Exchange {
+    ghost then = { Exchanges };
+}

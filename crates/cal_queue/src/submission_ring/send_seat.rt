@@ -1,0 +1,32 @@
+//! The sending end, and what it keeps between two calls.
+ghost use Rattle.std.specs.Prelude.{◌≡◌, ◌+◌, ◌%◌, ◌^◌, ◌<◌, true, false, None, length};
+ghost use Rattle.std.specs.Arc.{arc_value};
+ghost use Rattle.std.proofs.Props.{props};
+ghost use Rattle.cal_queue.specs.SubmissionCopy.{KeepsLast};
+
+use super::rule::{RingSeat, RingTable};
+use std::alloc::Global;
+use std::sync::Arc;
+
+/// The end of a submission ring that sends. It may go to another thread.
+#[derive(Drop)]
+pub struct SendSeat {
+    pub(super) table: Arc<RingTable, Global>,
+    pub(super) seat: RingSeat,
+    pub(super) buffer: u64,
+    // The write position, which only this end moves, and how many values came back.
+    pub(super) written: u64,
+    pub(super) returned: u64,
+    // The place of the write position, in the copy and among the slots.
+    pub(super) place: usize,
+    // The last values sent, one more than the buffer, so that the oldest comes back without a look at its slot.
+    pub(super) copy: Vec<u64>,
+    ghost seated: { seat.table_id ≡ (arc_value table).shared.table_id },
+    ghost sized: { ((arc_value table).shared.table_id.words ≡ buffer + 3) × ((arc_value table).shared.key ≡ buffer) × (buffer < 2 ^ 32) },
+    ghost sends: { (seat.me.0.writes ≡ true) × (seat.me.0.writer.buffer ≡ buffer) },
+    ghost nothing_due: { seat.me.0.writer.exchange_due ≡ false },
+    ghost nothing_to_send: { seat.me.0.writer.to_send ≡ None } by { Prim.hlevel props },
+    ghost counted: { (written ≡ length seat.me.0.writer.sent) × (returned ≡ length seat.me.0.writer.returned) },
+    ghost placed: { place ≡ written % (buffer + 1) },
+    ghost copied: { KeepsLast buffer seat.me.0.writer.sent copy.items },
+}

@@ -1,0 +1,113 @@
+//! The calls of the sending end. A push is a load, two stores and at most one exchange; it takes no memory and waits for
+//! nobody.
+ghost use Rattle.std.specs.Prelude.{◌≡◌, ◌+◌, ◌-◌, ◌%◌, ◌^◌, ◌<◌, ◌≤◌, ◌↔◌, ◌⊎◌, [], ◌∷◌, ◌++◌, length, IsTrue, IsFalse, IfSome, IfNone, IfOk, IsOk, OnOk, OnErr, slice_get, Some, None, Ok, Err};
+
+use super::place::next_place;
+use super::rule::FIRST_SLOT;
+use super::send_seat::SendSeat;
+use super::sender_steps::{append, displace, load_read};
+use crate::positions::is_used_up;
+use crate::push_refusal::PushRefusal;
+
+impl SendSeat {
+    ghost use Rattle.cal_queue.specs.SubmissionPass.{loaded_read, stored_slot, stored_write};
+    ghost use Rattle.cal_queue.specs.SubmissionCalls.{send_pass, SameSendEnd, SameLists, LoadsOnce, SeesFull, SeesRoom, LosesExchange, ComesBack};
+    ghost use Rattle.cal_queue.specs.declared.push_refusal.PushRefusal.TheVariants.{Full, PositionsUsedUp};
+
+    fn look(&mut self) -> u64
+        ensures same_end { SameSendEnd self.old self.new }
+        ensures one_load { send_pass self.new ≡ loaded_read result (send_pass self.old) }
+        ensures within { result ≤ length (send_pass self.old).sent }
+        ensures room { length (send_pass self.old).sent ≤ result + (send_pass self.old).buffer }
+    {
+        load_read(&self.table, &mut self.seat)
+    }
+
+    // Sends a value where the last look showed room.
+    fn send(&mut self, value: u64)
+        requires room { length (send_pass self.old).sent < (send_pass self.old).seen_read + (send_pass self.old).buffer }
+        requires counts { length (send_pass self.old).sent < 2 ^ 64 - 1 }
+        ensures same_end { SameSendEnd self.old self.new }
+        ensures sent { send_pass self.new ≡ stored_write value (stored_slot value (send_pass self.old)) }
+    {
+        append(
+            &self.table,
+            &mut self.seat,
+            FIRST_SLOT + self.place,
+            self.written,
+            value,
+        );
+        self.copy[self.place] = value;
+        self.place = next_place(self.place, self.buffer);
+        self.written += 1;
+    }
+
+    // Sends a value where the last look showed none, and tries to take the oldest one back.
+    fn send_over(&mut self, value: u64) -> Option<u64>
+        requires full { length (send_pass self.old).sent ≡ (send_pass self.old).seen_read + (send_pass self.old).buffer }
+        requires counts { length (send_pass self.old).sent < 2 ^ 64 - 1 }
+        ensures same_end { SameSendEnd self.old self.new }
+        ensures sent { (send_pass self.new).sent ≡ (send_pass self.old).sent ++ value ∷ [] }
+        ensures looked { ((send_pass self.new).seen_read ≡ (send_pass self.old).seen_read) × ((send_pass self.new).loads ≡ (send_pass self.old).loads) }
+        ensures back { IfSome result (λ oldest. ComesBack oldest (send_pass self.old) (send_pass self.new)) }
+        ensures kept { IfNone result ((send_pass self.new).returned ≡ (send_pass self.old).returned) }
+        ensures lost { IfNone result (LosesExchange (send_pass self.old) (send_pass self.new)) }
+    {
+        let read = self.written - self.buffer;
+        append(
+            &self.table,
+            &mut self.seat,
+            FIRST_SLOT + self.place,
+            self.written,
+            value,
+        );
+        self.copy[self.place] = value;
+        self.place = next_place(self.place, self.buffer);
+        self.written += 1;
+        if !displace(&self.table, &mut self.seat, read) {
+            return None;
+        }
+        self.returned += 1;
+        Some(self.copy[self.place])
+    }
+
+    /// Sends a value behind all others. With `overflow` a full ring takes it too, and its oldest value comes back, unless
+    /// it is received meanwhile.
+    pub fn push(&mut self, value: u64, overflow: bool) -> Result<Option<u64>, PushRefusal>
+        ensures same_end { SameSendEnd self.old self.new }
+        ensures appended { OnOk result ((send_pass self.new).sent ≡ (send_pass self.old).sent ++ value ∷ []) }
+        ensures returned { IfOk result (λ back. IfSome back (λ oldest. ComesBack oldest (send_pass self.old) (send_pass self.new))) }
+        ensures returned_where_full { IfOk result (λ back. IfSome back (λ oldest. IsTrue overflow × SeesFull (send_pass self.old) (send_pass self.new))) }
+        ensures none_returned { IfOk result (λ back. IfNone back ((send_pass self.new).returned ≡ (send_pass self.old).returned)) }
+        ensures none_returned_where { IfOk result (λ back. IfNone back (SeesRoom (send_pass self.old) (send_pass self.new)
+            ⊎ (IsTrue overflow × SeesFull (send_pass self.old) (send_pass self.new) × LosesExchange (send_pass self.old) (send_pass self.new)))) }
+        ensures refused { OnErr result (SameLists (send_pass self.old) (send_pass self.new)) }
+        ensures taken_with_overflow { IsTrue overflow → length (send_pass self.old).sent < 2 ^ 64 - 1 → IsOk result }
+        ensures full { result ≡ Err Full → IsFalse overflow × SeesFull (send_pass self.old) (send_pass self.new) }
+        ensures used_up { (result ≡ Err PositionsUsedUp) ↔ (length (send_pass self.old).sent ≡ 2 ^ 64 - 1) }
+    {
+        if is_used_up(self.written) {
+            return Err(PushRefusal::PositionsUsedUp);
+        }
+        let read = self.look();
+        if self.written - read < self.buffer {
+            self.send(value);
+            return Ok(None);
+        }
+        if !overflow {
+            return Err(PushRefusal::Full);
+        }
+        Ok(self.send_over(value))
+    }
+
+    /// Whether fewer values wait than may, by one look. Only this end adds values, so the answer `true` stays right until
+    /// its next push.
+    pub fn has_room(&mut self) -> bool
+        ensures same_end { SameSendEnd self.old self.new }
+        ensures one_look { LoadsOnce (send_pass self.old) (send_pass self.new) }
+        ensures full { IsFalse result ↔ (length (send_pass self.old).sent ≡ (send_pass self.new).seen_read + (send_pass self.new).buffer) }
+    {
+        let read = self.look();
+        self.written - read < self.buffer
+    }
+}

@@ -1,0 +1,26 @@
+//! The taking end, and what it keeps between two calls.
+ghost use Rattle.std.specs.Prelude.{◌≡◌, ◌+◌, ◌%◌, ◌^◌, ◌<◌, true, [], length};
+ghost use Rattle.std.specs.Arc.{arc_value};
+
+use super::rule::{RingSeat, RingTable};
+use std::alloc::Global;
+use std::sync::Arc;
+
+/// The end of a submission ring that takes. It may go to another thread.
+#[derive(Drop)]
+pub struct TakeSeat {
+    pub(super) table: Arc<RingTable, Global>,
+    pub(super) seat: RingSeat,
+    pub(super) buffer: u64,
+    // How many values were received.
+    pub(super) received: u64,
+    // The position behind the last one that was taken, and its place among the slots.
+    pub(super) next: u64,
+    pub(super) place: usize,
+    ghost seated: { seat.table_id ≡ (arc_value table).shared.table_id },
+    ghost sized: { ((arc_value table).shared.table_id.words ≡ buffer + 3) × ((arc_value table).shared.key ≡ buffer) × (buffer < 2 ^ 32) },
+    ghost takes: { (seat.me.0.reads ≡ true) × (seat.me.0.reader.buffer ≡ buffer) },
+    ghost empty_handed: { seat.me.1 ≡ [] },
+    ghost counted: { received ≡ length seat.me.0.reader.received },
+    ghost placed: { place ≡ next % (buffer + 1) },
+}

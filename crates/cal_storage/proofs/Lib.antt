@@ -1,0 +1,12 @@
+pub mod ChangeParts
+pub mod Entering
+pub mod EntryLaws
+pub mod HandleLaws
+pub mod Holding
+pub mod Keeping
+pub mod LaterLaws
+pub mod NameLists
+pub mod Naming
+pub mod OpenLaws
+pub mod Refusing
+pub mod Within

@@ -1,0 +1,17 @@
+pub mod Changes
+pub mod Contents
+pub mod ContentsLaws
+pub mod Examples
+pub mod Finishing
+pub mod Holding
+pub mod Initializer
+pub mod Managing
+pub mod OpenHandles
+pub mod Plan
+pub mod Refusals
+pub mod RegistryCalls
+pub mod RegistryLends
+pub mod SlotLends
+pub mod SlotsLend
+pub mod Soundness
+pub mod Staged

@@ -1,0 +1,66 @@
+//! The storage that is made as a file is: an entry may be begun and finished later, and an opening looks at its version.
+ghost use Rattle.std.specs.Prelude.{◌≡◌, ◌⊎◌, true, Some, IfOk, IfErr, IfSome, OnOk, OnErr};
+ghost use Rattle.cal_names.specs.Settings.{file_path_for};
+ghost use Rattle.cal_storage.specs.Contents.{new_handle, created};
+ghost use Rattle.cal_storage.specs.Refusals.{create_refusal};
+
+pub mod staged;
+
+use crate::dynamic_storage::{DynamicStorageCreateError, builder, configuration, storage};
+use crate::handle::Handle;
+use crate::registry::Registry;
+use cal_names::{NamedConceptConfiguration, NamedType};
+pub use staged::Staged;
+use std::fmt::Debug;
+
+/// The configuration of a file storage.
+pub type Configuration<T> = configuration::Configuration<T>;
+
+/// The builder of a file storage.
+pub type Builder<T> = builder::Builder<T, File>;
+
+/// A file storage.
+pub type Storage<T> = storage::Storage<T, File>;
+
+/// The kind of file storages.
+#[derive(Debug)]
+pub struct File;
+
+impl storage::Kind for File {
+    ghost checks_version = { true };
+
+    fn checks_version() -> bool {
+        true
+    }
+}
+
+impl<T: NamedType + Debug + Drop> builder::Builder<T, File> {
+    /// Begins the storage of this name: its entry is there, but isn't opened until it is finished. What is given back is its
+    /// one holder.
+    pub fn begin(
+        self,
+        reg: &mut Registry<T>,
+        initial_value: T,
+    ) -> Result<Staged<T>, DynamicStorageCreateError>
+        ensures refused { IfSome (create_refusal reg.old self.settings self.name) (λ error. result ≡ Err error) }
+        ensures error { IfErr result (λ error. (create_refusal reg.old self.settings self.name ≡ Some error)
+            ⊎ (error ≡ DynamicStorageCreateError.NoMemory)) }
+        ensures begun { OnOk result (reg.new ≡ created reg.old (file_path_for self.settings self.name) initial_value 0) }
+        ensures name { IfOk result (λ staged. staged.name ≡ self.name) }
+        ensures handle { IfOk result (λ staged.
+            staged.handle ≡ new_handle reg.old (file_path_for self.settings self.name) self.is_owner) }
+        ensures room { IfOk result (λ staged. staged.room ≡ self.room) }
+        ensures unchanged { OnErr result (reg.new ≡ reg.old) }
+    {
+        let Ok(path) = self.config.path_for(&self.name) else {
+            return Err(DynamicStorageCreateError::PathTooLong);
+        };
+        let id = reg.begin(&path, initial_value)?;
+        let handle = Handle {
+            id,
+            path,
+            is_owner: self.has_ownership,
+        };
+        Ok(Staged::new(self.name, handle, self.supplementary_size))
+    }
+}

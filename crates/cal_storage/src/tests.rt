@@ -1,0 +1,11 @@
+//! Worked examples through the public calls.
+
+mod calls;
+mod initializers;
+mod names;
+mod owners;
+mod shared_registries;
+mod staged_entries;
+mod stored_value;
+mod texts;
+mod worked_example;

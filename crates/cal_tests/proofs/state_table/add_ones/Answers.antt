@@ -1,0 +1,17 @@
+use Rattle.std.proofs.Common.{arith}
+use Rattle.cal_tests.proofs.StepWrites.{channels-kept, writes-looked, writes-wrote}
+use Rattle.cal_tests.proofs.state_table.add_ones.Goals as goal
+
+pub loop-preserved-in-Ok : goal.loop-preserved-in-Ok
+loop-preserved-in-Ok g c = record {
+  writes = writes-wrote _ _ _ _ _ _ c.in-Ok.ensures.won c.loop.invariant.writes;
+  channel = channels-kept _ _ _ c.in-Ok.ensures.won c.loop.invariant.channel;
+  within = omega arith;
+}
+
+pub loop-preserved : goal.loop-preserved
+loop-preserved g c = record {
+  writes = writes-looked _ _ _ _ _ c.in-Err.ensures.lost c.loop.invariant.writes;
+  channel = channels-kept _ _ _ c.in-Err.ensures.lost c.loop.invariant.channel;
+  within = c.loop.invariant.within;
+}
