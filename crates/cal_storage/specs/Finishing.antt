@@ -1,5 +1,5 @@
 -- What a slot ends as whose entry was being made.
-use Rattle.std.specs.Prelude.{◌≡◌, ℕ, Bool, true, false, IsSomeAnd, if◌then◌else◌}
+use Rattle.std.specs.Prelude.{◌≡◌, ℕ, Bool, IsSomeAnd, if◌then◌else◌}
 use Rattle.std.specs.Fn.{Mut}
 use Rattle.std.specs.Borrow.{MutBor}
 use Rattle.cal_alloc.specs.Bump.{Bump}
