@@ -1,14 +1,14 @@
 -- The changes as the code makes them: the names and the slots each on their own.
-use Rattle.std.proofs.Common.{◌≡◌, ℕ, ◌≤◌, length, Bool, true, false, not, ◌&&◌, Option, Some, None, List, if◌then◌else◌, slice_set, refl, sym, ap, subst, ◌∙◌}
+use Rattle.std.proofs.Common.{◌≡◌, ℕ, ◌≤◌, length, Bool, true, false, not, ◌&&◌, Option, Some, List, if◌then◌else◌, slice_set, refl, sym, ap, subst, ◌∙◌}
 use Rattle.std.proofs.lemmas.Bool.{le-ltb}
 use Rattle.std.specs.Map.{remove_entry}
 use Rattle.cal_storage.specs.declared.entry.Slot.{Slot}
 use Rattle.cal_storage.specs.declared.entry.Slot.TheVariants.{Ended}
-use Rattle.cal_storage.specs.Contents.{Contents, Handle, Has, is_path, id_at, slot_of, left_of, let_go, with_slot, without_name, name_taken, removed, is_named, disowned, closed, withdrawn}
+use Rattle.cal_storage.specs.Contents.{Contents, Handle, is_path, id_at, slot_of, left_of, let_go, with_slot, without_name, name_taken, removed, is_named, closed, withdrawn}
 use Rattle.cal_names.specs.Settings.{Settings, file_name_for, file_path_for}
 use Rattle.cal_storage.specs.Refusals.{name_removed}
 use Rattle.cal_storage.specs.Soundness.{IsSound}
-use Rattle.cal_storage.proofs.Keeping.{removed-IsSound, closed-IsSound, withdrawn-IsSound}
+use Rattle.cal_storage.proofs.Keeping.{removed-IsSound}
 
 module _ {T : Type 0} (contents : Contents T) where
   -- a removal under a name whose path fits, by the id that was found there

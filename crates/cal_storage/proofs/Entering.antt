@@ -1,5 +1,5 @@
 -- A path that was entered was free.
-use Rattle.std.proofs.Common.{◌≡◌, ◌↔◌, ℕ, Option, Some, None, IsSome, Result, Ok, Err, refl}
+use Rattle.std.proofs.Common.{◌≡◌, ◌↔◌, ℕ, Option, Some, None, IsSome, Result, Ok, refl}
 use Rattle.std.specs.Result.{IsErrOf}
 use Rattle.cal_storage.specs.declared.dynamic_storage.DynamicStorageCreateError.{DynamicStorageCreateError}
 use Rattle.cal_storage.specs.declared.dynamic_storage.DynamicStorageCreateError.TheVariants.{AlreadyExists}

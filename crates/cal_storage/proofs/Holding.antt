@@ -1,5 +1,5 @@
 -- What is known of the entry of an open handle, over each change to the registry.
-use Rattle.std.proofs.Common.{◌≡◌, ◌≢◌, ◌⊎◌, ℕ, ◌<◌, ◌≤◌, ◌+◌, ◌-◌, ◌^◌, ◌==◌, length, List, Bool, true, false, not, ◌&&◌, Option, Some, None, IsSomeAnd, option_map, option_and_then, IfSome, IfNone, min, lit≤, lit<, if◌then◌else◌, refl, sym, ap, subst, ◌∙◌, inl, inr, arith, true≢false, ne_eqb}
+use Rattle.std.proofs.Common.{◌≡◌, ◌≢◌, ℕ, ◌<◌, ◌≤◌, ◌+◌, ◌-◌, ◌^◌, ◌==◌, List, Bool, true, false, not, ◌&&◌, Option, Some, None, IsSomeAnd, option_map, option_and_then, IfSome, IfNone, lit≤, lit<, if◌then◌else◌, refl, sym, ap, subst, ◌∙◌, inl, inr, arith, true≢false, ne_eqb}
 use Rattle.std.proofs.lemmas.Bool.{cases_Bool, cases_eq, cond-false}
 use Rattle.std.proofs.lemmas.List.{get_or_past}
 use Rattle.std.proofs.lemmas.Option.{none-some, same_Some}
@@ -8,7 +8,7 @@ use Rattle.cal_storage.specs.declared.entry.Slot.{Slot}
 use Rattle.cal_storage.specs.declared.entry.Slot.TheVariants.{Ended, Kept}
 use Rattle.cal_storage.specs.Changes.{IsHeld, IsShared}
 use Rattle.cal_storage.specs.Contents.{Contents, Handle, Has, is_id, is_named, kept, let_go, left_of, one_more, one_less, id_at, slot_of, entry_of, with_slot, disowned, created, new_handle, found_handle, opened, removed, closed, finished, with_value, version_set, value_of}
-use Rattle.cal_storage.specs.ContentsLaws.{LeavesOthers, ChangesEntry, ChangesNamedEntry, TakesName, LetsGo, if_held, one_holder_more}
+use Rattle.cal_storage.specs.ContentsLaws.{ChangesEntry, ChangesNamedEntry, TakesName, if_held, one_holder_more}
 use Rattle.cal_storage.specs.Soundness.{IsSound}
 use Rattle.cal_names.specs.Settings.{Settings, file_path_for}
 use Rattle.cal_storage.specs.Refusals.{is_too_long, name_removed}

@@ -1,9 +1,9 @@
 -- A name's path among the names of a registry: the one that goes with the name is the one that `path_for` makes.
-use Rattle.std.proofs.Common.{◌≡◌, ℕ, ◌↔◌, ◌⊎◌, inl, inr, Bool, true, false, not, Option, Some, None, Result, Ok, Err, is_some, List, [], ◌∷◌, filter, refl, sym, ap, ◌∙◌}
+use Rattle.std.proofs.Common.{◌≡◌, ℕ, ◌↔◌, inl, inr, Bool, true, false, not, Option, Some, None, Result, Ok, Err, is_some, List, [], ◌∷◌, filter, sym, ap, ◌∙◌}
 use Rattle.std.proofs.lemmas.Bool.{cases_Bool}
 use Rattle.std.proofs.lemmas.Slice.Eq.{bytes_eq-Decides}
 use Rattle.std.specs.List.{AllByRecursion, list_any}
-use Rattle.std.specs.Map.{keys_of, lookup, remove_entry}
+use Rattle.std.specs.Map.{keys_of, remove_entry}
 use Rattle.cal_names.specs.FilePath.{IsFilePath}
 use Rattle.cal_names.specs.NamedConceptMgmt.{is_name, is_name-same}
 use Rattle.cal_storage.specs.Contents.{Contents, id_at, is_path}

@@ -1,12 +1,12 @@
 -- Which errors a creation has.
-use Rattle.std.proofs.Common.{◌≡◌, ℕ, ◌≤◌, ◌⊎◌, inl, inr, true, false, Option, Some, None, IsSome, is_some, List, length, if◌then◌else◌, Bool, refl, sym, ap, subst, ◌∙◌}
+use Rattle.std.proofs.Common.{◌≡◌, ℕ, ◌≤◌, ◌⊎◌, inl, inr, false, Option, Some, None, IsSome, is_some, List, length, if◌then◌else◌, Bool, refl, sym, ap, subst, ◌∙◌}
 use Rattle.std.proofs.lemmas.Bool.{le-ltb}
 use Rattle.std.specs.Fn.{Mut}
 use Rattle.std.specs.Borrow.{MutBor}
 use Rattle.cal_alloc.specs.Bump.{Bump}
 use Rattle.cal_names.specs.Settings.{Settings, file_name_for, file_path_for}
 use Rattle.cal_storage.specs.Contents.{Contents, id_at}
-use Rattle.cal_storage.specs.Refusals.{create_refusal, is_too_long}
+use Rattle.cal_storage.specs.Refusals.{create_refusal}
 use Rattle.cal_storage.specs.RegistryCalls.{CreateFails}
 use Rattle.cal_storage.specs.declared.dynamic_storage.DynamicStorageCreateError.{DynamicStorageCreateError}
 use Rattle.cal_storage.specs.declared.dynamic_storage.DynamicStorageCreateError.TheVariants.{AlreadyExists, PathTooLong}

@@ -1,5 +1,5 @@
 -- Ids for which an entry is there lie within the slots.
-use Rattle.std.proofs.Common.{◌≡◌, ◌<◌, ℕ, inl, inr, length, Some, None, IsSomeAnd, Option, List, subst, ap, get_or}
+use Rattle.std.proofs.Common.{◌≡◌, ◌<◌, ℕ, inl, inr, length, Some, IsSomeAnd, List, subst}
 use Rattle.std.proofs.lemmas.Bool.{cases_lt}
 use Rattle.std.proofs.lemmas.List.{get_or_past}
 use Rattle.cal_storage.specs.declared.entry.Entry.{Entry}

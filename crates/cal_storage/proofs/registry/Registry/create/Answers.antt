@@ -1,4 +1,3 @@
-use Rattle.std.proofs.Common.{ap, ◌∙◌}
 use Rattle.cal_storage.proofs.Keeping.{created-IsSound, remove-insert}
 use Rattle.cal_storage.proofs.Entering.{free_of_entered}
 use Rattle.cal_storage.proofs.registry.Registry.create.Goals as goal

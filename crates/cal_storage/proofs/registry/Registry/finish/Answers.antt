@@ -1,5 +1,5 @@
 use Rattle.std.proofs.Common.{◌∙◌, sym, ap, subst}
-use Rattle.cal_storage.specs.Contents.{is_id, id_at, Has}
+use Rattle.cal_storage.specs.Contents.{is_id, Has}
 use Rattle.cal_storage.specs.Soundness.{IsSound}
 use Rattle.cal_storage.proofs.ChangeParts.{withdrawn-is}
 use Rattle.cal_storage.proofs.Keeping.{finished-IsSound, withdrawn-IsSound}

@@ -1,4 +1,4 @@
-use Rattle.std.proofs.Common.{◌≡◌, ◌<◌, ℕ, length, Option, Some, None, IfSome, IsSomeAnd, List, sym, subst, ap, ◌∙◌, refl}
+use Rattle.std.proofs.Common.{◌≡◌, ◌<◌, ℕ, length, Option, Some, None, IfSome, IsSomeAnd, List, sym, ◌∙◌}
 use Rattle.cal_storage.specs.Contents.{Contents, id_at, entry_of}
 use Rattle.cal_storage.specs.Soundness.{IsSound}
 use Rattle.cal_storage.proofs.Within.{named_within}

@@ -1,6 +1,5 @@
-use Rattle.std.proofs.Common.{ap, ◌∙◌}
 use Rattle.cal_names.specs.Settings.{file_path_for}
-use Rattle.cal_storage.specs.Contents.{Handle, opened}
+use Rattle.cal_storage.specs.Contents.{opened}
 use Rattle.cal_storage.proofs.Holding.{opened-Holds, opened-JoinsHandles, KeepsHandles-is, KeepsHandles-opened}
 use Rattle.cal_storage.proofs.tests.calls.open.Goals as goal
 
