@@ -3,5 +3,6 @@
 #![tactic(auto)]
 
 pub mod completion_ring;
+mod reserve_refusal;
 pub mod state_table;
 pub mod submission_ring;
