@@ -1,12 +1,5 @@
 -- What a slot ends as whose entry was being made.
-<<<<<<< HEAD
-use Rattle.std.specs.Prelude.{◌≡◌, ℕ, Bool, true, false, IsSomeAnd, if◌then◌else◌}
-=======
 use Rattle.std.specs.Prelude.{◌≡◌, ℕ, Bool, IsSomeAnd, if◌then◌else◌}
-use Rattle.std.specs.Fn.{Mut}
-use Rattle.std.specs.Borrow.{MutBor}
-use Rattle.cal_alloc.specs.Bump.{Bump}
->>>>>>> eb459514af241a2f7c50ec881836c479a4c04474
 use Rattle.cal_storage.specs.declared.entry.Slot.{Slot}
 use Rattle.cal_storage.specs.Contents.{kept, valued, versioned}
 use Rattle.cal_storage.specs.Refusals.{finished_version}

@@ -1,5 +1,5 @@
 -- What a creation, and the finish of an entry that was being made, make of a registry.
-use Rattle.std.specs.Prelude.{◌≡◌, ℕ, ◌⊎◌, Bool, true, false, Option, Some, None, IsSomeAnd, List, length, if◌then◌else◌}
+use Rattle.std.specs.Prelude.{◌≡◌, ℕ, ◌⊎◌, Bool, true, false, Option, Some, None, IsSomeAnd, List, if◌then◌else◌}
 use Rattle.cal_storage.specs.Contents.{Contents, Handle, id_at, value_of, created, finished, withdrawn}
 use Rattle.cal_storage.specs.Refusals.{finished_version}
 use Rattle.cal_storage.specs.Initializer.{Calls, Initializes}
