@@ -2,7 +2,8 @@
 //! name can open it, and the value stays while anybody holds it.
 //!
 //! The layer above may rely on this: each call changes the name and the entry that it is about and no other, a refused call
-//! leaves the registry as it was, and the value that is read is the one that was last written.
+//! leaves the registry as it was, and the value that is read is the one that was last written. What a registry keeps is told
+//! by each call that succeeds (`sound`), so that the laws of registries can be used after it.
 ghost use Rattle.std.specs.Prelude.{◌≡◌, ◌≤◌, ◌^◌, ℕ, Bool, true, false, List, Some, None, codes, length, IfSome, IfNone, IfOk, IfErr, OnOk, OnErr};
 ghost use Rattle.std.specs.Borrow.{sem};
 ghost use Rattle.std.specs.Result.{result_err};
@@ -14,6 +15,7 @@ ghost use Rattle.cal_storage.specs.Managing.{goes_with};
 ghost use Rattle.cal_storage.specs.Refusals.{open_refusal, create_refusal, open_or_create_refusal, name_removed};
 ghost use Rattle.cal_storage.specs.RegistryCalls.{Creates, CreateFails, OpenOrCreateFails};
 ghost use Rattle.cal_storage.specs.RegistryLends.{LendsValue};
+ghost use Rattle.cal_storage.specs.Soundness.{IsSound};
 
 pub mod builder;
 pub mod configuration;
@@ -137,6 +139,7 @@ pub trait DynamicStorageBuilder<T, D: DynamicStorage<T>>: Debug + Drop + NamedCo
         ensures handle { IfOk result (λ storage. D.handle storage
             ≡ new_handle reg.old (file_path_for (Self.concept_settings self) (Self.concept_name self)) (is_owner self)) }
         ensures name { IfOk result (λ storage. D.concept_name storage ≡ Self.concept_name self) }
+        ensures sound { OnOk result (IsSound reg.old) }
         ensures unchanged { OnErr result (reg.new ≡ reg.old) };
 
     /// Opens the storage of this name, which is held once more then. What is opened doesn't own the name. Takes no memory.
@@ -153,6 +156,7 @@ pub trait DynamicStorageBuilder<T, D: DynamicStorage<T>>: Debug + Drop + NamedCo
             ≡ found_handle (file_path_for (Self.concept_settings self) (Self.concept_name self)) (D.handle storage).id) }
         ensures opened { IfOk result (λ storage. reg.new ≡ opened reg.old (D.handle storage).id) }
         ensures name { IfOk result (λ storage. D.concept_name storage ≡ Self.concept_name self) }
+        ensures sound { OnOk result (IsSound reg.old) }
         ensures unchanged { OnErr result (reg.new ≡ reg.old) };
 
     /// Opens the storage of this name, and creates it where its path stands for nothing. The initializer is called only then.
@@ -181,6 +185,7 @@ pub trait DynamicStorageBuilder<T, D: DynamicStorage<T>>: Debug + Drop + NamedCo
             × (D.handle storage
             ≡ new_handle reg.old (file_path_for (Self.concept_settings self) (Self.concept_name self)) (is_owner self)))) }
         ensures name { IfOk result (λ storage. D.concept_name storage ≡ Self.concept_name self) }
+        ensures sound { OnOk result (IsSound reg.old) }
         ensures unchanged { OnErr result (reg.new ≡ reg.old) };
 
     // What all that isn't the name or the configuration is in a new builder.
@@ -237,7 +242,8 @@ pub trait DynamicStorage<T>: Debug + Drop + NamedConcept + NamedConceptMgmt<Name
     /// entry. The value is dropped where neither a holder nor a name is left.
     fn close(self, reg: &mut Registry<T>)
         requires { Has reg.old (handle self) }
-        ensures { reg.new ≡ closed reg.old (handle self) };
+        ensures closed { reg.new ≡ closed reg.old (handle self) }
+        ensures sound { IsSound reg.old };
 
     // How the management of named concepts is meant: the paths are the registry's names, a path stands for the storage whose
     // name is extracted from it, and a removal takes this path alone.

@@ -3,6 +3,7 @@ ghost use Rattle.std.specs.Prelude.{◌≡◌, ◌⊎◌, true, Some, IfOk, IfEr
 ghost use Rattle.cal_names.specs.Settings.{file_path_for};
 ghost use Rattle.cal_storage.specs.Contents.{new_handle, created};
 ghost use Rattle.cal_storage.specs.Refusals.{create_refusal};
+ghost use Rattle.cal_storage.specs.Soundness.{IsSound};
 
 pub mod staged;
 
@@ -50,6 +51,7 @@ impl<T: NamedType + Debug + Drop> builder::Builder<T, File> {
         ensures handle { IfOk result (λ staged.
             staged.handle ≡ new_handle reg.old (file_path_for self.settings self.name) self.is_owner) }
         ensures room { IfOk result (λ staged. staged.room ≡ self.room) }
+        ensures sound { OnOk result (IsSound reg.old) }
         ensures unchanged { OnErr result (reg.new ≡ reg.old) }
     {
         let Ok(path) = self.config.path_for(&self.name) else {

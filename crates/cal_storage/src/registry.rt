@@ -156,6 +156,7 @@ impl<T> Registry<T> {
         ensures refused { result_err result ≡ entry_refusal checks_version (entry_at self.old path.now) }
         ensures id { IfOk result (λ id. id_at self.old path.now ≡ Some id) }
         ensures opened { IfOk result (λ id. self.new ≡ opened self.old id) }
+        ensures sound { IsSound self.old }
         ensures unchanged { OnErr result (self.new ≡ self.old) }
     {
         let id = self
@@ -187,6 +188,7 @@ impl<T: Drop> Registry<T> {
         ensures error { IfErr result (CreateFails F.FnMut (Some AlreadyExists) initializer initial_value room) }
         ensures id { IfOk result (λ id. id ≡ length self.old.slots) }
         ensures created { OnOk result (Creates F.FnMut initializer initial_value room self.old path.now self.new) }
+        ensures sound { IsSound self.old }
         ensures unchanged { OnErr result (self.new ≡ self.old) }
     {
         let id = enter_name(&mut self.names, &mut self.slots, path)?;
@@ -215,6 +217,7 @@ impl<T: Drop> Registry<T> {
         ensures error { IfErr result (λ error. (error ≡ AlreadyExists) ⊎ (error ≡ NoMemory)) }
         ensures id { IfOk result (λ id. id ≡ length self.old.slots) }
         ensures begun { OnOk result (self.new ≡ created self.old path.now value 0) }
+        ensures sound { IsSound self.old }
         ensures unchanged { OnErr result (self.new ≡ self.old) }
     {
         let id = enter_name(&mut self.names, &mut self.slots, path)?;
@@ -238,7 +241,8 @@ impl<T: Drop> Registry<T> {
         requires there { Has self.old handle.now }
         requires callable { IfSome (value_of self.old handle.now.id) (λ value. MayInitialize F.FnMut initializer value room) }
         requires room { room ≤ 2 ^ 56 }
-        ensures { FinishesEntry F.FnMut initializer room self.old handle.now result self.new }
+        ensures finished { FinishesEntry F.FnMut initializer room self.old handle.now result self.new }
+        ensures sound { IsSound self.old }
     {
         let alloc = self.alloc;
         let slot = slot_mut(&mut self.slots, handle.id);
@@ -280,7 +284,8 @@ impl<T: Drop> Registry<T> {
     /// stays while a holder or a name is left.
     pub(crate) fn close(&mut self, handle: &Handle)
         requires { Has self.old handle.now }
-        ensures { self.new ≡ closed self.old handle.now }
+        ensures closed { self.new ≡ closed self.old handle.now }
+        ensures sound { IsSound self.old }
     {
         let is_named = is_id(self.id_at(&handle.path), handle.id);
         take_name(&mut self.names, &handle.path, is_named && handle.is_owner);

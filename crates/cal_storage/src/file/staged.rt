@@ -4,6 +4,7 @@ ghost use Rattle.std.specs.Result.{is_ok};
 ghost use Rattle.cal_storage.specs.Contents.{Has, value_of};
 ghost use Rattle.cal_storage.specs.Initializer.{MayInitialize};
 ghost use Rattle.cal_storage.specs.RegistryCalls.{FinishesEntry};
+ghost use Rattle.cal_storage.specs.Soundness.{IsSound};
 
 use crate::dynamic_storage::DynamicStorageCreateError;
 use crate::file::Storage;
@@ -64,6 +65,7 @@ impl<T: Drop> Staged<T> {
         ensures handle { IfOk result (λ storage. storage.handle ≡ self.handle) }
         ensures name { IfOk result (λ storage. storage.name ≡ self.name) }
         ensures error { IfErr result (λ error. error ≡ DynamicStorageCreateError.InitializationFailed) }
+        ensures sound { IsSound reg.old }
     {
         if !reg.finish(&self.handle, self.supplementary_size, initializer) {
             return Err(DynamicStorageCreateError::InitializationFailed);

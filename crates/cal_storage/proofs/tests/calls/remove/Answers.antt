@@ -8,4 +8,4 @@ returns g c =
     let settings = g.S.Configuration.NamedConceptConfiguration.initial in
     KeepsHandles-is c.args.reg.now c.remove.new.reg (name_removed c.args.reg.now settings c.args.name.now)
     (c.in_ok-is_found.ensures.registry ∙ g.met.S.DynamicStorage.removes settings c.args.name.now c.args.reg.now)
-    (KeepsHandles-name_removed c.args.reg.now c.recall_soundness.ensures settings c.args.name.now)
+    (KeepsHandles-name_removed c.args.reg.now c.len-count.ensures.sound settings c.args.name.now)
