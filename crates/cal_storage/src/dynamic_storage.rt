@@ -1,5 +1,5 @@
 //! A dynamic storage holds a value of one type in a registry, under a name. Whoever creates it owns the name; whoever knows the
-//! name can open it, and the value stays while anybody holds it.
+//! name can open it, and the value stays while anybody holds it, unless it is refused when its making is finished.
 //!
 //! The layer above may rely on this: each call changes the name and the entry that it is about and no other, a refused call
 //! leaves the registry as it was, and the value that is read is the one that was last written. What a registry keeps is told

@@ -57,3 +57,16 @@ fn one_opens_what_another_finishes(rt: HostRuntime) -> Result<(), Fail> {
     assert_eq!(rt; open(&rt, &shared, &name), Ok(()));
     Ok(())
 }
+
+#[test]
+fn a_shared_registry_has_what_was_in_it(rt: HostRuntime) -> Result<(), Fail> {
+    let name = FileName::new(b"myDynStorage").ok_or("a file name")?;
+    let path = Configuration::<i64>::default().path_for(&name)?;
+    let mut reg = Registry::new(rt.alloc());
+    let _made: Storage<i64> = Builder::<i64>::new(&name).create(&mut reg, 444, |_, _| true)?;
+    let shared = SharedRegistry::new(reg);
+    let is_there = shared.lock(&rt).contains(&path);
+    assert!(rt; is_there);
+    assert_eq!(rt; open(&rt, &shared, &name), Ok(()));
+    Ok(())
+}
