@@ -5,7 +5,8 @@ use Rattle.std.proofs.lemmas.List.Elements.{All-nil, All-append}
 use Rattle.std.proofs.lemmas.List.Sums.{AllPass-from_list_all}
 use Rattle.cal_names.specs.FileName.{IsFileName, is_file_name_byte}
 use Rattle.cal_names.specs.FilePath.{IsFilePath, file_path_of, path_part, file_name_part}
-use Rattle.cal_names.specs.Settings.{Settings, type_part, file_name_for, file_path_for, extracted_name_at}
+use Rattle.cal_names.specs.ConceptSettings.{ConceptSettings, settings_of, parts_of, type_part, file_name_for, file_path_for, extracted_name_at}
+use Rattle.cal_names.specs.declared.path_parts.PathParts.{PathParts}
 use Rattle.cal_names.specs.Extraction.{extracted_name_at-exact}
 use Rattle.cal_names.proofs.FilePaths.{parts}
 use Rattle.cal_names.proofs.TypeHashes.{type_hash_bytes}
@@ -15,7 +16,7 @@ type_part_bytes None = All-nil (λ b. is_file_name_byte b ≡ true)
 type_part_bytes (Some type_name) =
     All-append (λ b. is_file_name_byte b ≡ true) _ _ (type_hash_bytes type_name) (AllPass-from_list_all is_file_name_byte (codes "_") refl)
 
-pub is_file_name_for : (settings : Settings) (name : List ℕ) → IsFileName settings.prefix → IsFileName name → IsFileName settings.suffix → length (file_name_for settings name) ≤ 255 → IsFileName (file_name_for settings name)
+pub is_file_name_for : (settings : ConceptSettings) (name : List ℕ) → IsFileName settings.prefix → IsFileName name → IsFileName settings.suffix → length (file_name_for settings name) ≤ 255 → IsFileName (file_name_for settings name)
 is_file_name_for settings name prefix own suffix fits =
     let P : ℕ → Type 0 = λ b. is_file_name_byte b ≡ true in
     let front : List ℕ = settings.prefix ++ type_part settings.type_name in
@@ -37,7 +38,7 @@ is_file_name_for settings name prefix own suffix fits =
     }
 
 -- a file path stands for a name exactly where it is the path of this name
-pub stands_for : (settings : Settings) (own other name : List ℕ) → IsFileName name → path_part own ≡ settings.path_hint → file_name_part own ≡ file_name_for settings name → own ≡ file_path_for settings name → IsFilePath other → (extracted_name_at settings other ≡ Some name) ↔ (own ≡ other)
+pub stands_for : (settings : ConceptSettings) (own other name : List ℕ) → IsFileName name → path_part own ≡ settings.path_hint → file_name_part own ≡ file_name_for settings name → own ≡ file_path_for settings name → IsFilePath other → (extracted_name_at settings other ≡ Some name) ↔ (own ≡ other)
 stands_for settings own other name rule at_hint file made is_path = (
   λ found.
       let told = (extracted_name_at-exact settings other name).0 found in
@@ -46,12 +47,13 @@ stands_for settings own other name rule at_hint file made is_path = (
 )
 
 -- no file path stands for a name whose file name is too long
-pub stands_for_none : (settings : Settings) (other name : List ℕ) → 255 < length (file_name_for settings name) → IsFilePath other → extracted_name_at settings other ≡ Some name → ⊥
+pub stands_for_none : (settings : ConceptSettings) (other name : List ℕ) → 255 < length (file_name_for settings name) → IsFilePath other → extracted_name_at settings other ≡ Some name → ⊥
 stands_for_none settings other name long is_path found =
     let told = (extracted_name_at-exact settings other name).0 found in
     omega (arith, ap length told.2, (parts other is_path).is_file_name.fits)
 
--- settings are their parts
-pub settings_of_parts : (settings : Settings) (prefix : List ℕ) (type_name : Option (List ℕ)) (suffix path_hint : List ℕ) → prefix ≡ settings.prefix → type_name ≡ settings.type_name → suffix ≡ settings.suffix → path_hint ≡ settings.path_hint → let parts : Settings = record { prefix = prefix; type_name = type_name; suffix = suffix; path_hint = path_hint } in parts ≡ settings
-settings_of_parts settings prefix type_name suffix path_hint p t s h i =
-    record { prefix = p i; type_name = t i; suffix = s i; path_hint = h i }
+-- settings are their parts and their type name
+pub settings_of-parts : (settings : ConceptSettings) (parts : PathParts) (type_name : Option (List ℕ)) →
+    parts ≡ parts_of settings → type_name ≡ settings.type_name → settings_of parts type_name ≡ settings
+settings_of-parts settings parts type_name same same_type =
+    ap (λ p. settings_of p type_name) same ∙ ap (settings_of (parts_of settings)) same_type

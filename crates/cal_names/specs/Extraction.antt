@@ -7,7 +7,7 @@ use Rattle.std.proofs.lemmas.Slice.Eq.{bytes_eq-Decides}
 use Rattle.std.proofs.Math.Seq.{drop-append_seam, take-append_seam}
 use Rattle.cal_names.specs.FileName.{IsFileName, is_file_name, is_file_name-decides, as_file_name}
 use Rattle.cal_names.specs.FilePath.{path_part, file_name_part}
-use Rattle.cal_names.specs.Settings.{Settings, type_part, file_name_for, without_prefix, without_suffix, extracted_name, extracted_name_at}
+use Rattle.cal_names.specs.ConceptSettings.{ConceptSettings, type_part, file_name_for, without_prefix, without_suffix, extracted_name, extracted_name_at}
 
 and_then-some : {T U : Type 0} (f : T → Option U) (o : Option T) (y : U) → option_and_then f o ≡ Some y → (x : T) × (o ≡ Some x) × (f x ≡ Some y)
 and_then-some f None y found = absurd (cc)
@@ -55,14 +55,14 @@ without_suffix-exact end bytes rest =
     )
 
 -- the name that is extracted step by step
-pub extracted_name-steps : (settings : Settings) (file_name behind_prefix behind_type rest : List ℕ) → without_prefix settings.prefix file_name ≡ Some behind_prefix → without_prefix (type_part settings.type_name) behind_prefix ≡ Some behind_type → without_suffix settings.suffix behind_type ≡ Some rest → extracted_name settings file_name ≡ as_file_name rest
+pub extracted_name-steps : (settings : ConceptSettings) (file_name behind_prefix behind_type rest : List ℕ) → without_prefix settings.prefix file_name ≡ Some behind_prefix → without_prefix (type_part settings.type_name) behind_prefix ≡ Some behind_type → without_suffix settings.suffix behind_type ≡ Some rest → extracted_name settings file_name ≡ as_file_name rest
 extracted_name-steps settings file_name behind_prefix behind_type rest first second third =
     ap (λ o. option_and_then as_file_name (option_and_then (without_suffix settings.suffix) (option_and_then (without_prefix (type_part settings.type_name)) o))) first
     ∙ ap (λ o. option_and_then as_file_name (option_and_then (without_suffix settings.suffix) o)) second
     ∙ ap (option_and_then as_file_name) third
 
 -- a file name stands for a name exactly where it is the one that is made of this name
-pub extracted_name-exact : (settings : Settings) (file_name name : List ℕ) → (extracted_name settings file_name ≡ Some name) ↔ (IsFileName name × (file_name ≡ file_name_for settings name))
+pub extracted_name-exact : (settings : ConceptSettings) (file_name name : List ℕ) → (extracted_name settings file_name ≡ Some name) ↔ (IsFileName name × (file_name ≡ file_name_for settings name))
 extracted_name-exact settings file_name name =
     let front : List ℕ = settings.prefix ++ type_part settings.type_name in (
       λ found.
@@ -86,7 +86,7 @@ extracted_name-exact settings file_name name =
     )
 
 -- a path stands for a name exactly where its path part is the path hint, and its file name the one that is made of this name
-pub extracted_name_at-exact : (settings : Settings) (path name : List ℕ) → (extracted_name_at settings path ≡ Some name) ↔ (IsFileName name × (path_part path ≡ settings.path_hint) × (file_name_part path ≡ file_name_for settings name))
+pub extracted_name_at-exact : (settings : ConceptSettings) (path name : List ℕ) → (extracted_name_at settings path ≡ Some name) ↔ (IsFileName name × (path_part path ≡ settings.path_hint) × (file_name_part path ≡ file_name_for settings name))
 extracted_name_at-exact settings path name =
     let test : Bool = bytes_eq (path_part path) settings.path_hint in
     let told = extracted_name-exact settings (file_name_part path) name in (
@@ -100,13 +100,13 @@ extracted_name_at-exact settings path name =
     )
 
 -- the same of an answer that is the extracted name
-pub exact_from_value : (settings : Settings) (file_name : List ℕ) (answer : Option (List ℕ)) → answer ≡ extracted_name settings file_name → (name : List ℕ) → (answer ≡ Some name) ↔ (IsFileName name × (file_name ≡ file_name_for settings name))
+pub exact_from_value : (settings : ConceptSettings) (file_name : List ℕ) (answer : Option (List ℕ)) → answer ≡ extracted_name settings file_name → (name : List ℕ) → (answer ≡ Some name) ↔ (IsFileName name × (file_name ≡ file_name_for settings name))
 exact_from_value settings file_name answer value name =
     let told = extracted_name-exact settings file_name name in
     (λ found. told.0 (sym value ∙ found), λ known. value ∙ told.1 known)
 
 -- a path elsewhere stands for no name
-pub extracted_name_at-elsewhere : (settings : Settings) (path : List ℕ) → (path_part path ≡ settings.path_hint → ⊥) → extracted_name_at settings path ≡ None
+pub extracted_name_at-elsewhere : (settings : ConceptSettings) (path : List ℕ) → (path_part path ≡ settings.path_hint → ⊥) → extracted_name_at settings path ≡ None
 extracted_name_at-elsewhere settings path elsewhere =
     elim (bytes_eq (path_part path) settings.path_hint) as (λ t. bytes_eq (path_part path) settings.path_hint ≡ t → (if t then extracted_name settings (file_name_part path) else None) ≡ None)
     [ true ↦ λ same. absurd (elsewhere ((bytes_eq-Decides (path_part path) settings.path_hint).0 same)) | false ↦ λ other. refl ] refl

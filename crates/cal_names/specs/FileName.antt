@@ -1,10 +1,11 @@
 -- The rule of file names.
-use Rattle.std.specs.Prelude.{◌≡◌, ◌≢◌, true, false, ℕ, ◌<◌, ◌≤◌, Bool, not, ◌&&◌, ◌||◌, ◌==◌, nat_lt, nat_le, List, length, Option, Some, None, codes, if◌then◌else◌}
+use Rattle.std.specs.Prelude.{◌≡◌, ◌≢◌, true, false, ℕ, ◌+◌, ◌<◌, ◌≤◌, Bool, not, ◌&&◌, ◌||◌, ◌==◌, nat_lt, nat_le, List, [], ◌∷◌, ◌++◌, length, Option, Some, None, codes, if◌then◌else◌}
 use Rattle.std.specs.Bool.{Decides}
 use Rattle.std.specs.List.{AllPass, list_all}
 use Rattle.std.specs.Str.{bytes_eq}
 use Rattle.std.proofs.lemmas.Bool.Decides.{Decides-and, Decides-not, Decides-ltb, Decides-like, nat_tests}
-use Rattle.std.proofs.Common.{arith, refl, ap}
+use Rattle.std.proofs.Common.{arith, refl, ap, length-append}
+use Rattle.std.proofs.lemmas.List.Elements.{All-append}
 use Rattle.std.proofs.lemmas.List.Sums.{AllPass-from_list_all, list_all-from_AllPass}
 use Rattle.std.proofs.lemmas.Slice.Eq.{bytes_eq-Decides}
 use Rattle.std.specs.Char.{is_ascii_alphanumeric}
@@ -53,3 +54,33 @@ as_file_name_yes bytes rule = ap (λ t. if t then Some bytes else None) ((is_fil
 
 pub as_file_name_no : (bytes : List ℕ) → (IsFileName bytes → ⊥) → as_file_name bytes ≡ None
 as_file_name_no bytes refuted = ap (λ t. if t then Some bytes else None) (false_from_no (is_file_name bytes) (IsFileName bytes) (is_file_name-decides bytes) refuted)
+
+-- more than 255 bytes are none
+pub as_file_name_long : (bytes : List ℕ) → 255 < length bytes → as_file_name bytes ≡ None
+as_file_name_long bytes long = as_file_name_no bytes (λ rule. omega (arith, rule.fits))
+
+-- bytes after a file name make neither `.` nor `..` of it
+joined-not_dot : (name more : List ℕ) → IsFileName name → name ++ more ≢ codes "."
+joined-not_dot [] more rule same = absurd (omega (arith, rule.not_empty))
+joined-not_dot (a ∷ []) more rule same = rule.not_dot (cc)
+joined-not_dot (a ∷ b ∷ rest) more rule same = absurd (cc)
+
+joined-not_two_dots : (name more : List ℕ) → IsFileName name → name ++ more ≢ codes ".."
+joined-not_two_dots [] more rule same = absurd (omega (arith, rule.not_empty))
+joined-not_two_dots (a ∷ []) more rule same = rule.not_dot (cc)
+joined-not_two_dots (a ∷ b ∷ []) more rule same = rule.not_two_dots (cc)
+joined-not_two_dots (a ∷ b ∷ c ∷ rest) more rule same = absurd (cc)
+
+-- a file name with more bytes of file names after it is one, where it isn't too long
+pub IsFileName-joined : (name more : List ℕ) → IsFileName name → AllPass is_file_name_byte more → length name + length more ≤ 255 → IsFileName (name ++ more)
+IsFileName-joined name more rule bytes fits = record {
+  not_empty = omega (arith, rule.not_empty, length-append name more);
+  fits = omega (arith, length-append name more);
+  bytes = All-append (λ b. is_file_name_byte b ≡ true) name more rule.bytes bytes;
+  not_dot = joined-not_dot name more rule;
+  not_two_dots = joined-not_two_dots name more rule;
+}
+
+pub as_file_name-joined : (name more : List ℕ) → IsFileName name → AllPass is_file_name_byte more → length name + length more ≤ 255 → as_file_name (name ++ more) ≡ Some (name ++ more)
+as_file_name-joined name more rule bytes fits =
+    as_file_name_yes (name ++ more) (IsFileName-joined name more rule bytes fits)

@@ -4,6 +4,8 @@ pub mod Path
 pub mod FilePath
 pub mod TypeName
 pub mod TypeHash
-pub mod Settings
+pub mod ConceptSettings
 pub mod Extraction
 pub mod NamedConceptMgmt
+pub mod Plan
+pub mod Examples

@@ -3,7 +3,7 @@
 ghost use Rattle.std.specs.Prelude.{◌≡◌, ◌≤◌, ◌↔◌, ℕ, List, Some, length, IsOk, IfOk};
 ghost use Rattle.cal_names.specs.FileName.{IsFileName};
 ghost use Rattle.cal_names.specs.FilePath.{IsFilePath};
-ghost use Rattle.cal_names.specs.Settings.{file_name_for, file_path_for, extracted_name, extracted_name_at};
+ghost use Rattle.cal_names.specs.ConceptSettings.{file_name_for, file_path_for, extracted_name, extracted_name_at};
 
 use crate::file_name::FileName;
 use crate::file_path::FilePath;
@@ -17,7 +17,7 @@ use crate::type_name::TypeName;
 pub trait DynamicStorageConfiguration: NamedConceptConfiguration {
     /// The name of the stored type.
     fn type_name(&self) -> &TypeName
-        ensures { (Self.settings self.now).type_name ≡ Some result.now };
+        ensures type_name { (Self.settings self.now).type_name ≡ Some result.now };
 
     /// The path that stands for a name.
     fn path_for_with_type(&self, value: &FileName) -> Result<FilePath, PathTooLong>
@@ -28,13 +28,7 @@ pub trait DynamicStorageConfiguration: NamedConceptConfiguration {
             (extracted_name_at (Self.settings self.now) other ≡ Some value.now)
             ↔ (result ≡ Ok other) }
     {
-        path_of_name(
-            self.get_path_hint(),
-            self.get_prefix(),
-            Some(*self.type_name()),
-            self.get_suffix(),
-            value,
-        )
+        path_of_name(self.parts(), Some(*self.type_name()), value)
     }
 
     /// The name that a file name stands for.
@@ -43,11 +37,6 @@ pub trait DynamicStorageConfiguration: NamedConceptConfiguration {
         ensures exact { (name : List ℕ) → (result ≡ Some name)
             ↔ (IsFileName name × (value.now ≡ file_name_for (Self.settings self.now) name)) }
     {
-        name_of_file(
-            self.get_prefix(),
-            Some(*self.type_name()),
-            self.get_suffix(),
-            value,
-        )
+        name_of_file(self.parts(), Some(*self.type_name()), value)
     }
 }

@@ -1,5 +1,5 @@
 //! The name of a file.
-ghost use Rattle.std.specs.Prelude.{◌≡◌, ◌↔◌, IsTrue, IsSome, IfSome};
+ghost use Rattle.std.specs.Prelude.{◌≡◌, ◌↔◌, ◌++◌, IsTrue, IsSome, IfSome};
 ghost use Rattle.cal_names.specs.FileName.{IsFileName, is_file_name_byte, as_file_name};
 
 use crate::bounded_bytes::BoundedBytes;
@@ -42,6 +42,20 @@ impl FileName {
         } else {
             None
         }
+    }
+
+    /// This file name with more bytes after it, where that is a file name: where the bytes are bytes of file names and all
+    /// are at most 255.
+    #[tactic(auto, using(crate::specs::FileName::as_file_name_long))]
+    pub fn joined(&self, more: &[u8]) -> Option<Self>
+        ensures value { result ≡ as_file_name (self.now ++ more.now) }
+    {
+        let mut bytes = self.bytes;
+        if more.len() > MAX_LEN - bytes.as_bytes().len() {
+            return None;
+        }
+        bytes.append(more);
+        FileName::new(bytes.as_bytes())
     }
 
     /// The bytes of the file name.

@@ -9,6 +9,7 @@ mod name_paths;
 pub mod named_concept;
 pub mod named_type;
 pub mod path;
+pub mod path_parts;
 pub mod path_too_long;
 pub mod type_hash;
 pub mod type_name;
@@ -23,6 +24,7 @@ pub use named_concept::{
 };
 pub use named_type::NamedType;
 pub use path::Path;
+pub use path_parts::PathParts;
 pub use path_too_long::PathTooLong;
 pub use type_name::TypeName;
 

@@ -8,13 +8,15 @@ ghost use Rattle.std.specs.Cmp.Lexicographic.{slice_cmp};
 ghost use Rattle.std.specs.Ordering.{nat_cmp};
 ghost use Rattle.cal_names.specs.FileName.{IsFileName};
 ghost use Rattle.cal_names.specs.FilePath.{IsFilePath, path_part, file_name_part};
-ghost use Rattle.cal_names.specs.Settings.{Settings, file_name_for, file_path_for, extracted_name, extracted_name_at};
+ghost use Rattle.cal_names.specs.ConceptSettings.{ConceptSettings, parts_of, with_parts, file_name_for, file_path_for, extracted_name, extracted_name_at};
+ghost use Rattle.cal_names.specs.Plan.{Plan};
 ghost use Rattle.cal_names.specs.NamedConceptMgmt.{is_name};
 
 use crate::file_name::FileName;
 use crate::file_path::FilePath;
 use crate::name_paths::{name_of_file, path_of_name};
 use crate::path::Path;
+use crate::path_parts::PathParts;
 use crate::path_too_long::PathTooLong;
 use crate::type_name::TypeName;
 use std::alloc::Global;
@@ -77,39 +79,77 @@ pub enum NamedConceptPathHintRemoveError {
 /// path of a name.
 pub trait NamedConceptConfiguration: Default + Clone + Copy + Debug {
     // What the configuration holds.
-    ghost settings: { Self → Settings };
+    ghost settings: { Self → ConceptSettings };
 
     // What the default configuration holds.
-    ghost initial: { Settings };
+    ghost initial: { ConceptSettings };
+
+    /// Prefix, suffix and path hint.
+    fn parts(&self) -> &PathParts
+        ensures parts { result.now ≡ parts_of (settings self.now) };
+
+    /// The configuration with this prefix, suffix and path hint.
+    fn with_parts(self, parts: PathParts) -> Self
+        ensures settings { settings result ≡ with_parts (settings self) parts };
 
     /// The configuration with this prefix.
     fn prefix(self, value: &FileName) -> Self
-        ensures { settings result ≡ record (settings self) { prefix = value.now } };
+        ensures settings { settings result ≡ record (settings self) { prefix = value.now } }
+    {
+        let parts = *self.parts();
+        self.with_parts(PathParts {
+            prefix: *value,
+            ..parts
+        })
+    }
 
     /// The prefix.
     fn get_prefix(&self) -> &FileName
-        ensures { result.now ≡ (settings self.now).prefix };
+        ensures prefix { result.now ≡ (settings self.now).prefix }
+    {
+        &self.parts().prefix
+    }
 
     /// The configuration with this suffix.
     fn suffix(self, value: &FileName) -> Self
-        ensures { settings result ≡ record (settings self) { suffix = value.now } };
+        ensures settings { settings result ≡ record (settings self) { suffix = value.now } }
+    {
+        let parts = *self.parts();
+        self.with_parts(PathParts {
+            suffix: *value,
+            ..parts
+        })
+    }
 
     /// The configuration with this path hint.
     fn path_hint(self, value: &Path) -> Self
-        ensures { settings result ≡ record (settings self) { path_hint = value.now } };
+        ensures settings { settings result ≡ record (settings self) { path_hint = value.now } }
+    {
+        let parts = *self.parts();
+        self.with_parts(PathParts {
+            path_hint: *value,
+            ..parts
+        })
+    }
 
     /// The suffix.
     fn get_suffix(&self) -> &FileName
-        ensures { result.now ≡ (settings self.now).suffix };
+        ensures suffix { result.now ≡ (settings self.now).suffix }
+    {
+        &self.parts().suffix
+    }
 
     /// The path hint.
     fn get_path_hint(&self) -> &Path
-        ensures { result.now ≡ (settings self.now).path_hint };
+        ensures path_hint { result.now ≡ (settings self.now).path_hint }
+    {
+        &self.parts().path_hint
+    }
 
     /// The type name whose hash stands between the prefix and the name: that of the stored type, or
     /// none where nothing is stored.
     fn get_type_name(&self) -> Option<TypeName>
-        ensures { result ≡ (settings self.now).type_name };
+        ensures type_name { result ≡ (settings self.now).type_name };
 
     /// The path that stands for a name.
     fn path_for(&self, value: &FileName) -> Result<FilePath, PathTooLong>
@@ -119,13 +159,7 @@ pub trait NamedConceptConfiguration: Default + Clone + Copy + Debug {
         ensures inverse { (other : List ℕ) → IsFilePath other →
             (extracted_name_at (settings self.now) other ≡ Some value.now) ↔ (result ≡ Ok other) }
     {
-        path_of_name(
-            self.get_path_hint(),
-            self.get_prefix(),
-            self.get_type_name(),
-            self.get_suffix(),
-            value,
-        )
+        path_of_name(self.parts(), self.get_type_name(), value)
     }
 
     /// The name that a path stands for.
@@ -148,12 +182,7 @@ pub trait NamedConceptConfiguration: Default + Clone + Copy + Debug {
         ensures exact { (name : List ℕ) → (result ≡ Some name)
             ↔ (IsFileName name × (value.now ≡ file_name_for (settings self.now) name)) }
     {
-        name_of_file(
-            self.get_prefix(),
-            self.get_type_name(),
-            self.get_suffix(),
-            value,
-        )
+        name_of_file(self.parts(), self.get_type_name(), value)
     }
 
     // A default configuration holds this.
@@ -165,26 +194,26 @@ pub trait NamedConceptConfiguration: Default + Clone + Copy + Debug {
 
 /// A builder of a concept.
 pub trait NamedConceptBuilder<T: NamedConceptMgmt> {
-    // The name of the concept that is built.
-    ghost concept_name: { Self → List ℕ };
+    /// What a builder of this kind is told beside the name and the configuration.
+    type Options;
 
-    // What its configuration holds.
-    ghost concept_settings: { Self → Settings };
+    // All that decides what is built.
+    ghost plan: { Self → Plan Self.Options };
 
-    // Whether all that a builder has beside these is as in a new one.
-    ghost IsDefault: { Self → Type 0 };
+    // What a new builder has been told.
+    ghost default_options: { Self.Options };
 
     /// A builder of the concept of this name, with the default configuration.
     fn new(name: &FileName) -> Self
-        ensures name { concept_name result ≡ name.now }
-        ensures settings { concept_settings result ≡ T.Configuration.initial }
-        ensures defaults { IsDefault result };
+        ensures plan { plan result ≡ record {
+          name = name.now;
+          settings = T.Configuration.initial;
+          options = default_options;
+        } };
 
-    /// The builder with this configuration.
+    /// The builder with this configuration. All else that it was told stays.
     fn config(self, config: &T::Configuration) -> Self
-        ensures name { concept_name result ≡ concept_name self }
-        ensures settings { concept_settings result ≡ T.Configuration.settings config.now }
-        ensures defaults { IsDefault self → IsDefault result };
+        ensures plan { plan result ≡ record (plan self) { settings = T.Configuration.settings config.now } };
 }
 
 /// What has a file name as its name.
@@ -194,7 +223,7 @@ pub trait NamedConcept: Debug {
 
     /// The name of the concept.
     fn name(&self) -> &FileName
-        ensures { result.now ≡ concept_name self.now };
+        ensures name { result.now ≡ concept_name self.now };
 }
 
 /// The management of all concepts of one kind, over the paths of a registry.
@@ -207,16 +236,19 @@ pub trait NamedConceptMgmt: Debug {
     ghost paths: { Self.Names → List (List ℕ) };
 
     // The name of the concept for whose existence a path stands under a configuration, if any.
-    ghost shown_name: { Settings → List ℕ → Option (List ℕ) };
+    ghost shown_name: { ConceptSettings → List ℕ → Option (List ℕ) };
 
     // Whether a path goes away when the concept of this name is removed under a configuration.
-    ghost goes_with: { Settings → List ℕ → List ℕ → Bool };
+    ghost goes_with: { ConceptSettings → List ℕ → List ℕ → Bool };
 
     // The registry after the concept of this name was removed under a configuration.
-    ghost removed: { Settings → List ℕ → Self.Names → Self.Names };
+    ghost removed: { ConceptSettings → List ℕ → Self.Names → Self.Names };
 
     // Whether a removal lists the paths first, which takes memory.
     ghost lists_first: { Bool };
+
+    // What a registry has for each open concept, it has later.
+    ghost KeepsOpen: { Self.Names → Self.Names → Type 0 };
 
     /// `remove_cfg` under the default configuration.
     fn remove(
@@ -231,6 +263,7 @@ pub trait NamedConceptMgmt: Debug {
         ensures registry { OnOk result (reg.new ≡ removed Self.Configuration.initial name.now reg.old) }
         ensures no_memory { IfErr result (λ error.
             IsTrue lists_first × (error ≡ NamedConceptRemoveError.NoMemory)) }
+        ensures keeps { KeepsOpen reg.old reg.new }
         ensures unchanged { OnErr result (reg.new ≡ reg.old) }
     {
         Self::remove_cfg(alloc, reg, name, &Self::Configuration::default())
@@ -238,7 +271,7 @@ pub trait NamedConceptMgmt: Debug {
 
     /// `does_exist_cfg` under the default configuration.
     fn does_exist(reg: &Self::Names, name: &FileName) -> Result<bool, NamedConceptDoesExistError>
-        ensures { let shown : List ℕ → Option (List ℕ) = shown_name Self.Configuration.initial in
+        ensures found { let shown : List ℕ → Option (List ℕ) = shown_name Self.Configuration.initial in
             result ≡ Ok (list_any (λ path. is_name name.now (shown path)) (paths reg.now)) }
     {
         Self::does_exist_cfg(reg, name, &Self::Configuration::default())
@@ -270,6 +303,7 @@ pub trait NamedConceptMgmt: Debug {
         ensures registry { OnOk result (reg.new ≡ removed (Self.Configuration.settings cfg.now) name.now reg.old) }
         ensures no_memory { IfErr result (λ error.
             IsTrue lists_first × (error ≡ NamedConceptRemoveError.NoMemory)) }
+        ensures keeps { KeepsOpen reg.old reg.new }
         ensures unchanged { OnErr result (reg.new ≡ reg.old) };
 
     /// Whether the concept of this name is there, so `false` also where the path of the name would
@@ -279,7 +313,7 @@ pub trait NamedConceptMgmt: Debug {
         name: &FileName,
         cfg: &Self::Configuration,
     ) -> Result<bool, NamedConceptDoesExistError>
-        ensures { let shown : List ℕ → Option (List ℕ) = shown_name (Self.Configuration.settings cfg.now) in
+        ensures found { let shown : List ℕ → Option (List ℕ) = shown_name (Self.Configuration.settings cfg.now) in
             result ≡ Ok (list_any (λ path. is_name name.now (shown path)) (paths reg.now)) };
 
     /// The names of all concepts, in the order of the bytes of their paths.
@@ -295,23 +329,23 @@ pub trait NamedConceptMgmt: Debug {
 
     /// The default prefix.
     fn default_prefix() -> FileName
-        ensures { result ≡ codes "iox2_" }
+        ensures prefix { result ≡ codes "iox2_" }
     {
         FileName::new(b"iox2_").unwrap()
     }
 
     /// The default path hint.
     fn default_path_hint() -> Path
-        ensures { result ≡ codes "/tmp" }
+        ensures path_hint { result ≡ codes "/tmp" }
     {
         Path::new(b"/tmp").unwrap()
     }
 
     /// Removes the directory of a path hint. There is none here: nothing changes.
     fn remove_path_hint(value: &Path) -> Result<(), NamedConceptPathHintRemoveError>
-        ensures { result ≡ Ok tt };
+        ensures done { result ≡ Ok tt };
 
     // Where a path shows a concept, it goes with this concept.
-    ghost shown_goes: { (settings : Settings) (path name : List ℕ) →
+    ghost shown_goes: { (settings : ConceptSettings) (path name : List ℕ) →
         shown_name settings path ≡ Some name → goes_with settings name path ≡ true };
 }

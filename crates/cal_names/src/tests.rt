@@ -85,6 +85,24 @@ fn file_paths_at_their_limits(rt: HostRuntime) {
 }
 
 #[test]
+fn file_names_are_joined(rt: HostRuntime) -> Result<(), Fail> {
+    let name = FileName::new(b"mem").ok_or("a file name")?;
+    let segment = FileName::new(b"mem__0").ok_or("a file name")?;
+    assert_eq!(rt; name.joined(b"__0"), Some(segment));
+    assert_eq!(rt; name.joined(b""), Some(name));
+    assert_eq!(rt; name.joined(b"/"), None);
+    let dots = FileName::new(b"a.").ok_or("a file name")?;
+    assert_eq!(rt;
+        FileName::new(b"a").ok_or("a file name")?.joined(b"."),
+        Some(dots)
+    );
+    let long = [b'a'; 255];
+    assert_eq!(rt; name.joined(&long[..252]).is_some(), true);
+    assert_eq!(rt; name.joined(&long[..253]), None);
+    Ok(())
+}
+
+#[test]
 fn type_names_at_their_limits(rt: HostRuntime) -> Result<(), Fail> {
     let long = [0; 256];
     assert!(rt; TypeName::new(b"").is_some());

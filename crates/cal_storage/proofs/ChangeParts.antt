@@ -5,14 +5,14 @@ use Rattle.std.specs.Map.{remove_entry}
 use Rattle.cal_storage.specs.declared.entry.Slot.{Slot}
 use Rattle.cal_storage.specs.declared.entry.Slot.TheVariants.{Ended}
 use Rattle.cal_storage.specs.Contents.{Contents, Handle, is_path, id_at, slot_of, left_of, let_go, with_slot, without_name, name_taken, removed, is_named, closed, withdrawn}
-use Rattle.cal_names.specs.Settings.{Settings, file_name_for, file_path_for}
+use Rattle.cal_names.specs.ConceptSettings.{ConceptSettings, file_name_for, file_path_for}
 use Rattle.cal_storage.specs.Refusals.{name_removed}
 use Rattle.cal_storage.specs.Soundness.{IsSound}
 use Rattle.cal_storage.proofs.Keeping.{removed-IsSound}
 
 module _ {T : Type 0} (contents : Contents T) where
   -- a removal under a name whose path fits, by the id that was found there
-  pub name_removed-is : (settings : Settings) (name path : List ℕ) → length (file_name_for settings name) ≤ 255 → path ≡ file_path_for settings name
+  pub name_removed-is : (settings : ConceptSettings) (name path : List ℕ) → length (file_name_for settings name) ≤ 255 → path ≡ file_path_for settings name
       → (found : Option ℕ) → id_at contents path ≡ found → name_taken contents path found ≡ name_removed contents settings name
   name_removed-is settings name path fits is_path_for found at =
       sym (ap (λ long. if long then contents else removed contents (file_path_for settings name)) (le-ltb 255 (length (file_name_for settings name)) fits)

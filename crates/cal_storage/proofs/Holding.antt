@@ -10,7 +10,7 @@ use Rattle.cal_storage.specs.Changes.{IsHeld, IsShared}
 use Rattle.cal_storage.specs.Contents.{Contents, Handle, Has, is_id, is_named, kept, let_go, left_of, one_more, one_less, id_at, slot_of, entry_of, with_slot, disowned, created, new_handle, found_handle, opened, removed, closed, finished, with_value, version_set, value_of}
 use Rattle.cal_storage.specs.ContentsLaws.{ChangesEntry, ChangesNamedEntry, TakesName, if_held, one_holder_more}
 use Rattle.cal_storage.specs.Soundness.{IsSound}
-use Rattle.cal_names.specs.Settings.{Settings, file_path_for}
+use Rattle.cal_names.specs.ConceptSettings.{ConceptSettings, file_path_for}
 use Rattle.cal_storage.specs.Refusals.{is_too_long, name_removed}
 use Rattle.cal_storage.specs.Holding.{HasHolders, Holds, IsNamed, value_at, KeepsHandles, LeavesHandles, JoinsHandles}
 use Rattle.cal_storage.proofs.Keeping.{is_id-true, is_id-same, entry_of-with_slot-same}
@@ -164,7 +164,7 @@ module _ {T : Type 0} where
         holders-TakesName contents (removed contents path) count handle.id holds.1 path some (removed-TakesName contents sound path),
       )
 
-      pub KeepsHandles-name_removed : (settings : Settings) (name : List ℕ) → KeepsHandles contents (name_removed contents settings name)
+      pub KeepsHandles-name_removed : (settings : ConceptSettings) (name : List ℕ) → KeepsHandles contents (name_removed contents settings name)
       KeepsHandles-name_removed settings name =
           elim (is_too_long settings name) as (λ long. KeepsHandles contents (if long then contents else removed contents (file_path_for settings name))) [
             | true ↦ KeepsHandles-same

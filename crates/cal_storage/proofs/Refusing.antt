@@ -4,14 +4,14 @@ use Rattle.std.proofs.lemmas.Bool.{le-ltb}
 use Rattle.std.specs.Fn.{Mut}
 use Rattle.std.specs.Borrow.{MutBor}
 use Rattle.cal_alloc.specs.Bump.{Bump}
-use Rattle.cal_names.specs.Settings.{Settings, file_name_for, file_path_for}
+use Rattle.cal_names.specs.ConceptSettings.{ConceptSettings, file_name_for, file_path_for}
 use Rattle.cal_storage.specs.Contents.{Contents, id_at}
 use Rattle.cal_storage.specs.Refusals.{create_refusal}
 use Rattle.cal_storage.specs.RegistryCalls.{CreateFails}
 use Rattle.cal_storage.specs.declared.dynamic_storage.DynamicStorageCreateError.{DynamicStorageCreateError}
 use Rattle.cal_storage.specs.declared.dynamic_storage.DynamicStorageCreateError.TheVariants.{AlreadyExists, PathTooLong}
 
-module _ {T : Type 0} (contents : Contents T) (settings : Settings) (name : List ℕ) (fits : length (file_name_for settings name) ≤ 255) where
+module _ {T : Type 0} (contents : Contents T) (settings : ConceptSettings) (name : List ℕ) (fits : length (file_name_for settings name) ≤ 255) where
   -- a path that fits and is there is refused as such
   pub taken : IsSome (id_at contents (file_path_for settings name)) → create_refusal contents settings name ≡ Some AlreadyExists
   taken there =
@@ -36,7 +36,7 @@ none_from_absent (Some id) absent = absurd (cc)
 
 -- a creation under a path that is free fails for no path
 module _ {F T : Type 0} (calls : Mut F (MutBor T × (MutBor Bump × Unit {0})) (Bool × (MutBor T × (MutBor Bump × Unit {0})))) where
-  pub fails_free : (contents : Contents T) (settings : Settings) (name path : List ℕ) → length (file_name_for settings name) ≤ 255 → path ≡ file_path_for settings name → is_some (id_at contents path) ≡ false
+  pub fails_free : (contents : Contents T) (settings : ConceptSettings) (name path : List ℕ) → length (file_name_for settings name) ≤ 255 → path ≡ file_path_for settings name → is_some (id_at contents path) ≡ false
       → (initializer : F) (value : T) (room : ℕ) (error : DynamicStorageCreateError) → CreateFails calls (create_refusal contents settings name) initializer value room error
       → (id_at contents (file_path_for settings name) ≡ None) × CreateFails calls None initializer value room error
   fails_free contents settings name path fits is_path_for absent initializer value room error fails =

@@ -1,6 +1,6 @@
 -- Why a creation or an opening is refused.
 use Rattle.std.specs.Prelude.{ℕ, Bool, not, nat_lt, ◌==◌, Option, Some, None, is_some, List, length, if◌then◌else◌}
-use Rattle.cal_names.specs.Settings.{Settings, file_name_for, file_path_for}
+use Rattle.cal_names.specs.ConceptSettings.{ConceptSettings, file_name_for, file_path_for}
 use Rattle.cal_storage.specs.Contents.{Contents, id_at, entry_at, removed}
 use Rattle.cal_storage.specs.declared.entry.Entry.{Entry}
 use Rattle.cal_storage.specs.declared.dynamic_storage.DynamicStorageCreateError.{DynamicStorageCreateError}
@@ -13,7 +13,7 @@ abbrev pub finished_version : ℕ
 finished_version = 9003
 
 -- the path of a name would have a file name of more than 255 bytes
-abbrev pub is_too_long : Settings → List ℕ → Bool
+abbrev pub is_too_long : ConceptSettings → List ℕ → Bool
 is_too_long settings name = nat_lt 255 (length (file_name_for settings name))
 
 -- why an entry isn't opened, the first cause that holds; the version counts where it is checked
@@ -27,20 +27,20 @@ entry_refusal checks_version (Some entry) =
 
 module _ {T : Type 0} where
   -- why nothing is opened under a name, the first cause that holds
-  abbrev pub open_refusal : Bool → Contents T → Settings → List ℕ → Option DynamicStorageOpenError
+  abbrev pub open_refusal : Bool → Contents T → ConceptSettings → List ℕ → Option DynamicStorageOpenError
   open_refusal checks_version contents settings name =
       if is_too_long settings name then Some open_error.PathTooLong
       else entry_refusal checks_version (entry_at contents (file_path_for settings name))
 
   -- why nothing is created under a name, the first cause that holds
-  abbrev pub create_refusal : Contents T → Settings → List ℕ → Option DynamicStorageCreateError
+  abbrev pub create_refusal : Contents T → ConceptSettings → List ℕ → Option DynamicStorageCreateError
   create_refusal contents settings name =
       if is_too_long settings name then Some create.PathTooLong
       else if is_some (id_at contents (file_path_for settings name)) then Some create.AlreadyExists
       else None
 
   -- why a name is neither opened nor created under, but for causes of the creation itself
-  abbrev pub open_or_create_refusal : Bool → Contents T → Settings → List ℕ → Option DynamicStorageOpenError
+  abbrev pub open_or_create_refusal : Bool → Contents T → ConceptSettings → List ℕ → Option DynamicStorageOpenError
   open_or_create_refusal checks_version contents settings name =
       if is_too_long settings name then Some open_error.PathTooLong
       else if is_some (id_at contents (file_path_for settings name))
@@ -48,6 +48,6 @@ module _ {T : Type 0} where
       else None
 
   -- without a name; one whose path would be too long stands for nothing
-  abbrev pub name_removed : Contents T → Settings → List ℕ → Contents T
+  abbrev pub name_removed : Contents T → ConceptSettings → List ℕ → Contents T
   name_removed contents settings name =
       if is_too_long settings name then contents else removed contents (file_path_for settings name)

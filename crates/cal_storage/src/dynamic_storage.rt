@@ -8,7 +8,7 @@ ghost use Rattle.std.specs.Prelude.{◌≡◌, ◌≤◌, ◌^◌, ℕ, Bool, tr
 ghost use Rattle.std.specs.Borrow.{sem};
 ghost use Rattle.std.specs.Result.{result_err};
 ghost use Rattle.std.specs.Map.{keys_of};
-ghost use Rattle.cal_names.specs.Settings.{Settings, file_path_for, extracted_name_at};
+ghost use Rattle.cal_names.specs.ConceptSettings.{ConceptSettings, file_path_for, extracted_name_at};
 ghost use Rattle.cal_storage.specs.Contents.{Contents, Handle, Has, id_at, value_of, new_handle, found_handle, opened, closed};
 ghost use Rattle.cal_storage.specs.Initializer.{MayInitialize};
 ghost use Rattle.cal_storage.specs.Managing.{goes_with};
@@ -249,13 +249,13 @@ pub trait DynamicStorage<T>: Debug + Drop + NamedConcept + NamedConceptMgmt<Name
     // name is extracted from it, and a removal takes this path alone.
     ghost paths_are_names: { (reg : Contents T) → Self.paths reg ≡ keys_of reg.names };
 
-    ghost shows: { (settings : Settings) (path : List ℕ) →
+    ghost shows: { (settings : ConceptSettings) (path : List ℕ) →
         Self.shown_name settings path ≡ extracted_name_at settings path };
 
-    ghost goes: { (settings : Settings) (name path : List ℕ) →
+    ghost goes: { (settings : ConceptSettings) (name path : List ℕ) →
         Self.goes_with settings name path ≡ goes_with settings name path };
 
-    ghost removes: { (settings : Settings) (name : List ℕ) (reg : Contents T) →
+    ghost removes: { (settings : ConceptSettings) (name : List ℕ) (reg : Contents T) →
         Self.removed settings name reg ≡ name_removed reg settings name };
 
     ghost lists_nothing_first: { Self.lists_first ≡ false };

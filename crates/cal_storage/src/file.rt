@@ -1,6 +1,6 @@
 //! The storage that is made as a file is: an entry may be begun and finished later, and an opening looks at its version.
 ghost use Rattle.std.specs.Prelude.{◌≡◌, ◌⊎◌, true, Some, IfOk, IfErr, IfSome, OnOk, OnErr};
-ghost use Rattle.cal_names.specs.Settings.{file_path_for};
+ghost use Rattle.cal_names.specs.ConceptSettings.{file_path_for};
 ghost use Rattle.cal_storage.specs.Contents.{new_handle, created};
 ghost use Rattle.cal_storage.specs.Refusals.{create_refusal};
 ghost use Rattle.cal_storage.specs.Soundness.{IsSound};

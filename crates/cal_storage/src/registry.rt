@@ -11,7 +11,7 @@ ghost use Rattle.std.specs.Ordering.{nat_cmp};
 ghost use Rattle.std.specs.BTreeMap.{insert_entry};
 ghost use Rattle.std.specs.Cmp.Lexicographic.{slice_cmp};
 ghost use Rattle.cal_names.specs.FilePath.{IsFilePath};
-ghost use Rattle.cal_names.specs.Settings.{extracted_name_at};
+ghost use Rattle.cal_names.specs.ConceptSettings.{extracted_name_at};
 ghost use Rattle.cal_storage.specs.Contents.{is_id, is_path, Has, nothing_registered, id_at, entry_at, entry_of, value_of, created, opened, closed, version_set};
 ghost use Rattle.cal_storage.specs.Managing.{goes_with};
 ghost use Rattle.cal_storage.specs.Soundness.{IsSound};

@@ -1,13 +1,14 @@
 //! A kind of concept over a registry with room for one path, managed through its bound.
 ghost use Rattle.std.specs.Prelude.{◌≡◌, None, Some, codes, false, refl, if◌then◌else◌};
 ghost use Rattle.std.specs.Option.{option_to_list, option_and_then};
-ghost use Rattle.cal_names.specs.Settings.{extracted_name_at};
+ghost use Rattle.cal_names.specs.ConceptSettings.{settings_of, extracted_name_at};
+ghost use Rattle.cal_names.specs.Examples.{receiver_parts};
 ghost use Rattle.cal_names.specs.NamedConceptMgmt.{is_name, is_name-same};
 
 use crate::{
     FileName, FilePath, NamedConcept, NamedConceptBuilder, NamedConceptConfiguration,
     NamedConceptDoesExistError, NamedConceptListError, NamedConceptMgmt,
-    NamedConceptPathHintRemoveError, NamedConceptRemoveError, Path, TypeName,
+    NamedConceptPathHintRemoveError, NamedConceptRemoveError, Path, PathParts, TypeName,
 };
 use std::alloc::Global;
 use std::process::Abort;
@@ -16,66 +17,42 @@ use std::test::Fail;
 /// A configuration of a concept that stores nothing.
 #[derive(Clone, Copy, Debug)]
 struct Plain {
-    prefix: FileName,
-    suffix: FileName,
-    path_hint: Path,
+    parts: PathParts,
 }
 
 impl Default for Plain {
-    ghost is_default = { λ c. (c.prefix ≡ codes "iox2_") × (c.suffix ≡ codes ".rx") × (c.path_hint ≡ codes "/tmp") };
+    ghost is_default = { λ c. c.parts ≡ receiver_parts };
 
     fn default() -> Self {
         Plain {
-            prefix: FileName::new(b"iox2_").unwrap(),
-            suffix: FileName::new(b".rx").unwrap(),
-            path_hint: Path::new(b"/tmp").unwrap(),
+            parts: PathParts {
+                prefix: FileName::new(b"iox2_").unwrap(),
+                suffix: FileName::new(b".rx").unwrap(),
+                path_hint: Path::new(b"/tmp").unwrap(),
+            },
         }
     }
 }
 
 impl NamedConceptConfiguration for Plain {
-    ghost settings = { λ c. record { prefix = c.prefix; type_name = None; suffix = c.suffix; path_hint = c.path_hint } };
+    ghost settings = { λ c. settings_of c.parts None };
 
-    ghost initial = { record { prefix = codes "iox2_"; type_name = None; suffix = codes ".rx"; path_hint = codes "/tmp" } };
+    ghost initial = { settings_of receiver_parts None };
 
-    fn prefix(self, value: &FileName) -> Self {
-        Plain {
-            prefix: *value,
-            ..self
-        }
+    fn parts(&self) -> &PathParts {
+        &self.parts
     }
 
-    fn get_prefix(&self) -> &FileName {
-        &self.prefix
-    }
-
-    fn suffix(self, value: &FileName) -> Self {
-        Plain {
-            suffix: *value,
-            ..self
-        }
-    }
-
-    fn path_hint(self, value: &Path) -> Self {
-        Plain {
-            path_hint: *value,
-            ..self
-        }
-    }
-
-    fn get_suffix(&self) -> &FileName {
-        &self.suffix
-    }
-
-    fn get_path_hint(&self) -> &Path {
-        &self.path_hint
+    fn with_parts(self, parts: PathParts) -> Self {
+        let Plain { parts: _ } = self;
+        Plain { parts }
     }
 
     fn get_type_name(&self) -> Option<TypeName> {
         None
     }
 
-    ghost starts = { λ c default i. record { prefix = default.0 i; type_name = None; suffix = default.1 i; path_hint = default.2 i } };
+    ghost starts = { λ c default i. settings_of (default i) None };
 
     ghost defaults = { (refl, refl) };
 }
@@ -102,6 +79,9 @@ impl NamedConceptMgmt for Lone {
         option_and_then (λ path. if is_name name (extracted_name_at settings path) then None else Some path) reg };
 
     ghost lists_first = { false };
+
+    // Nothing is open.
+    ghost KeepsOpen = { λ _ _. Unit {0} };
 
     fn remove_cfg(
         _alloc: Global,
@@ -162,12 +142,11 @@ struct Built {
 }
 
 impl NamedConceptBuilder<Lone> for Built {
-    ghost concept_name = { λ b. b.name };
+    type Options = ();
 
-    ghost concept_settings = { λ b. record { prefix = b.config.prefix; type_name = None; suffix = b.config.suffix; path_hint = b.config.path_hint } };
+    ghost plan = { λ b. record { name = b.name; settings = settings_of b.config.parts None; options = tt } };
 
-    // A builder has nothing beside these.
-    ghost IsDefault = { λ _. Unit {0} };
+    ghost default_options = { tt };
 
     fn new(name: &FileName) -> Self {
         Built {

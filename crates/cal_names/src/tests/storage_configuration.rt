@@ -1,8 +1,11 @@
 //! A small configuration that implements both configuration traits, used through its bounds.
 ghost use Rattle.std.specs.Prelude.{◌≡◌, Some, codes, refl};
+ghost use Rattle.cal_names.specs.ConceptSettings.{settings_of};
+ghost use Rattle.cal_names.specs.Examples.{dyn_parts};
 
 use crate::{
-    DynamicStorageConfiguration, FileName, FilePath, NamedConceptConfiguration, Path, TypeName,
+    DynamicStorageConfiguration, FileName, FilePath, NamedConceptConfiguration, Path, PathParts,
+    TypeName,
 };
 use std::process::Abort;
 use std::test::Fail;
@@ -10,68 +13,43 @@ use std::test::Fail;
 /// A configuration of a storage of one type.
 #[derive(Clone, Copy, Debug)]
 struct Configuration {
-    prefix: FileName,
-    suffix: FileName,
-    path_hint: Path,
+    parts: PathParts,
     type_name: TypeName,
 }
 
 impl Default for Configuration {
-    ghost is_default = { λ c. (c.prefix ≡ codes "iox2_") × (c.suffix ≡ codes ".dyn") × (c.path_hint ≡ codes "/tmp") × (c.type_name ≡ codes "abc") };
+    ghost is_default = { λ c. (c.parts ≡ dyn_parts) × (c.type_name ≡ codes "abc") };
 
     fn default() -> Self {
         Configuration {
-            prefix: FileName::new(b"iox2_").unwrap(),
-            suffix: FileName::new(b".dyn").unwrap(),
-            path_hint: Path::new(b"/tmp").unwrap(),
+            parts: PathParts {
+                prefix: FileName::new(b"iox2_").unwrap(),
+                suffix: FileName::new(b".dyn").unwrap(),
+                path_hint: Path::new(b"/tmp").unwrap(),
+            },
             type_name: TypeName::new(b"abc").unwrap(),
         }
     }
 }
 
 impl NamedConceptConfiguration for Configuration {
-    ghost settings = { λ c. record { prefix = c.prefix; type_name = Some c.type_name; suffix = c.suffix; path_hint = c.path_hint } };
+    ghost settings = { λ c. settings_of c.parts (Some c.type_name) };
 
-    ghost initial = { record { prefix = codes "iox2_"; type_name = Some (codes "abc"); suffix = codes ".dyn"; path_hint = codes "/tmp" } };
+    ghost initial = { settings_of dyn_parts (Some (codes "abc")) };
 
-    fn prefix(self, value: &FileName) -> Self {
-        Configuration {
-            prefix: *value,
-            ..self
-        }
+    fn parts(&self) -> &PathParts {
+        &self.parts
     }
 
-    fn get_prefix(&self) -> &FileName {
-        &self.prefix
-    }
-
-    fn suffix(self, value: &FileName) -> Self {
-        Configuration {
-            suffix: *value,
-            ..self
-        }
-    }
-
-    fn path_hint(self, value: &Path) -> Self {
-        Configuration {
-            path_hint: *value,
-            ..self
-        }
-    }
-
-    fn get_suffix(&self) -> &FileName {
-        &self.suffix
-    }
-
-    fn get_path_hint(&self) -> &Path {
-        &self.path_hint
+    fn with_parts(self, parts: PathParts) -> Self {
+        Configuration { parts, ..self }
     }
 
     fn get_type_name(&self) -> Option<TypeName> {
         Some(self.type_name)
     }
 
-    ghost starts = { λ c default i. record { prefix = default.0 i; type_name = Some (default.3 i); suffix = default.1 i; path_hint = default.2 i } };
+    ghost starts = { λ c default i. settings_of (default.0 i) (Some (default.1 i)) };
 
     ghost defaults = { (refl, refl) };
 }

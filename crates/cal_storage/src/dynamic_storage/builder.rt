@@ -30,7 +30,7 @@ pub struct Builder<T, K> {
 
 impl<T, K> Model for Builder<T, K> {
     ghost use Rattle.std.specs.Prelude.{◌≤◌, ◌^◌, Some};
-    ghost use Rattle.cal_names.specs.Settings.{settings_from};
+    ghost use Rattle.cal_names.specs.ConceptSettings.{settings_from};
     ghost use Rattle.cal_storage.specs.Plan.{Plan};
 
     ghost Value = { Plan };

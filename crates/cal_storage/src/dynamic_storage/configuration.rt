@@ -1,6 +1,6 @@
 //! The configuration of a storage: what stands before and behind a name in the path of its file, and the stored type's name.
 ghost use Rattle.std.specs.Prelude.{◌≡◌, Some, codes, refl};
-ghost use Rattle.cal_names.specs.Settings.{settings_from};
+ghost use Rattle.cal_names.specs.ConceptSettings.{settings_from};
 
 use cal_names::{
     DynamicStorageConfiguration, FileName, NamedConceptConfiguration, NamedType, Path, TypeName,

@@ -2,7 +2,7 @@
 ghost use Rattle.std.specs.Prelude.{◌≡◌, Bool, false, refl};
 ghost use Rattle.std.specs.Map.{keys_of};
 ghost use Rattle.cal_names.specs.NamedConceptMgmt.{is_name-same};
-ghost use Rattle.cal_names.specs.Settings.{extracted_name_at};
+ghost use Rattle.cal_names.specs.ConceptSettings.{extracted_name_at};
 ghost use Rattle.cal_storage.specs.Managing.{goes_with};
 ghost use Rattle.cal_storage.specs.Refusals.{name_removed};
 

@@ -1,6 +1,6 @@
 //! The calls that the tests of both kinds of storage make, through the bound alone, each with what its caller goes on with.
 ghost use Rattle.std.specs.Prelude.{◌≡◌, Some, IfOk, OnOk, OnErr};
-ghost use Rattle.cal_names.specs.Settings.{file_path_for};
+ghost use Rattle.cal_names.specs.ConceptSettings.{file_path_for};
 ghost use Rattle.cal_storage.specs.Contents.{Has, created, new_handle};
 ghost use Rattle.cal_storage.specs.Refusals.{finished_version};
 ghost use Rattle.cal_storage.specs.Holding.{Holds, IsNamed, KeepsHandles, LeavesHandles, JoinsHandles};

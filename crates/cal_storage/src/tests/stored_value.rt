@@ -1,6 +1,6 @@
 //! A value that is stored under a name and read back, through the bound alone.
 ghost use Rattle.std.specs.Prelude.{◌≡◌, Some, IfOk, OnOk, OnErr};
-ghost use Rattle.cal_names.specs.Settings.{file_path_for};
+ghost use Rattle.cal_names.specs.ConceptSettings.{file_path_for};
 ghost use Rattle.cal_storage.specs.Holding.{value_at};
 
 use super::calls::create;

@@ -1,5 +1,5 @@
 use Rattle.std.proofs.Common.{ap}
-use Rattle.cal_names.specs.Settings.{file_path_for}
+use Rattle.cal_names.specs.ConceptSettings.{file_path_for}
 use Rattle.cal_storage.specs.Contents.{Handle, created}
 use Rattle.cal_storage.specs.Refusals.{finished_version}
 use Rattle.cal_storage.proofs.Holding.{created-Holds, created-IsNamed, KeepsHandles-is, KeepsHandles-created}

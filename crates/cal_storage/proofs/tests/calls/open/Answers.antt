@@ -1,4 +1,4 @@
-use Rattle.cal_names.specs.Settings.{file_path_for}
+use Rattle.cal_names.specs.ConceptSettings.{file_path_for}
 use Rattle.cal_storage.specs.Contents.{opened}
 use Rattle.cal_storage.proofs.Holding.{opened-Holds, opened-JoinsHandles, KeepsHandles-is, KeepsHandles-opened}
 use Rattle.cal_storage.proofs.tests.calls.open.Goals as goal

@@ -1,4 +1,4 @@
-use Rattle.cal_names.specs.Settings.{file_path_for}
+use Rattle.cal_names.specs.ConceptSettings.{file_path_for}
 use Rattle.cal_storage.specs.Refusals.{finished_version}
 use Rattle.cal_storage.proofs.Holding.{stands}
 use Rattle.cal_storage.proofs.tests.calls.open_or_create.Goals as goal

@@ -1,6 +1,6 @@
 use Rattle.std.proofs.Common.{Some, ap, ◌∙◌, to_z, of_z, w64}
 use Rattle.std.proofs.Math.Facts.{to_z-of_z}
-use Rattle.cal_names.specs.Settings.{file_path_for}
+use Rattle.cal_names.specs.ConceptSettings.{file_path_for}
 use Rattle.cal_storage.specs.Refusals.{finished_version}
 use Rattle.cal_storage.proofs.Holding.{value-stored}
 use Rattle.cal_storage.proofs.tests.stored_value.store.Goals as goal

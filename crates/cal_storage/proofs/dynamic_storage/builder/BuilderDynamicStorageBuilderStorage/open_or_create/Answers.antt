@@ -1,5 +1,5 @@
 use Rattle.std.proofs.Common.{◌≡◌, ◌≤◌, length, refl, sym, subst, ◌∙◌}
-use Rattle.cal_names.specs.Settings.{file_name_for, file_path_for}
+use Rattle.cal_names.specs.ConceptSettings.{file_name_for, file_path_for}
 use Rattle.cal_storage.specs.Plan.{Plan}
 use Rattle.cal_storage.proofs.Refusing.{fails_free}
 use Rattle.cal_storage.proofs.dynamic_storage.builder.BuilderDynamicStorageBuilderStorage.open_or_create.Goals as goal
