@@ -4,23 +4,23 @@ use Rattle.std.proofs.lemmas.Bool.{le-ltb}
 use Rattle.std.specs.Map.{remove_entry}
 use Rattle.cal_storage.specs.declared.entry.Slot.{Slot}
 use Rattle.cal_storage.specs.declared.entry.Slot.TheVariants.{Ended}
-use Rattle.cal_storage.specs.Contents.{Contents, Handle, is_path, id_at, slot_of, left_of, let_go, with_slot, without_name, name_taken, removed, is_named, closed, withdrawn}
+use Rattle.cal_storage.specs.Contents.{Contents, Handle, is_path, id_at, slot_of, slot_if_used, slot_with_holder_less, with_slot, without_name, without_found_name, after_removal, is_named, after_close, after_withdrawal}
 use Rattle.cal_names.specs.ConceptSettings.{ConceptSettings, file_name_for, file_path_for}
-use Rattle.cal_storage.specs.Refusals.{name_removed}
+use Rattle.cal_storage.specs.Refusals.{after_name_removal}
 use Rattle.cal_storage.specs.Soundness.{IsSound}
-use Rattle.cal_storage.proofs.Keeping.{removed-IsSound}
+use Rattle.cal_storage.specs.SoundnessLemmas.{after_removal-IsSound}
 
 module _ {T : Type 0} (contents : Contents T) where
   -- a removal under a name whose path fits, by the id that was found there
-  pub name_removed-is : (settings : ConceptSettings) (name path : List ℕ) → length (file_name_for settings name) ≤ 255 → path ≡ file_path_for settings name
-      → (found : Option ℕ) → id_at contents path ≡ found → name_taken contents path found ≡ name_removed contents settings name
-  name_removed-is settings name path fits is_path_for found at =
-      sym (ap (λ long. if long then contents else removed contents (file_path_for settings name)) (le-ltb 255 (length (file_name_for settings name)) fits)
-      ∙ ap (removed contents) (sym is_path_for)
-      ∙ ap (name_taken contents path) at)
+  pub after_name_removal-is : (settings : ConceptSettings) (name path : List ℕ) → length (file_name_for settings name) ≤ 255 → path ≡ file_path_for settings name
+      → (found : Option ℕ) → id_at contents path ≡ found → without_found_name contents path found ≡ after_name_removal settings name contents
+  after_name_removal-is settings name path fits is_path_for found at =
+      sym (ap (λ long. if long then contents else after_removal contents (file_path_for settings name)) (le-ltb 255 (length (file_name_for settings name)) fits)
+      ∙ ap (after_removal contents) (sym is_path_for)
+      ∙ ap (without_found_name contents path) at)
 
-  pub removed_at : IsSound contents → (path : List ℕ) (id : ℕ) → id_at contents path ≡ Some id → IsSound (with_slot (without_name contents path) id (left_of false (slot_of contents id)))
-  removed_at sound path id at = subst (λ found. IsSound (name_taken contents path found)) at (removed-IsSound contents sound path)
+  pub removed_at : IsSound contents → (path : List ℕ) (id : ℕ) → id_at contents path ≡ Some id → IsSound (with_slot (without_name contents path) id (slot_if_used false (slot_of contents id)))
+  removed_at sound path id at = subst (λ found. IsSound (without_found_name contents path found)) at (after_removal-IsSound contents sound path)
 
   -- the names without one, where it goes
   abbrev pub names_left : List ℕ → Bool → List (List ℕ × ℕ)
@@ -35,18 +35,18 @@ module _ {T : Type 0} (contents : Contents T) where
     closed_parts false false slot = refl
 
     -- a close, by whether the name still stands for the entry
-    pub closed-is : (named : Bool) → named ≡ is_named contents handle →
-        closed contents handle ≡ record {
+    pub after_close-is : (named : Bool) → named ≡ is_named contents handle →
+        after_close contents handle ≡ record {
           names = names_left handle.path (named && handle.is_owner);
-          slots = slice_set contents.slots handle.id (left_of (named && not handle.is_owner) (let_go (slot_of contents handle.id)));
+          slots = slice_set contents.slots handle.id (slot_if_used (named && not handle.is_owner) (slot_with_holder_less (slot_of contents handle.id)));
         }
-    closed-is named is =
-        subst (λ b. with_slot (if handle.is_owner then (if b then without_name contents handle.path else contents) else contents) handle.id (left_of (b && not handle.is_owner) (let_go (slot_of contents handle.id)))
+    after_close-is named is =
+        subst (λ b. with_slot (if handle.is_owner then (if b then without_name contents handle.path else contents) else contents) handle.id (slot_if_used (b && not handle.is_owner) (slot_with_holder_less (slot_of contents handle.id)))
         ≡ record {
           names = names_left handle.path (named && handle.is_owner);
-          slots = slice_set contents.slots handle.id (left_of (named && not handle.is_owner) (let_go (slot_of contents handle.id)));
+          slots = slice_set contents.slots handle.id (slot_if_used (named && not handle.is_owner) (slot_with_holder_less (slot_of contents handle.id)));
         })
-        is (closed_parts named handle.is_owner (left_of (named && not handle.is_owner) (let_go (slot_of contents handle.id))))
+        is (closed_parts named handle.is_owner (slot_if_used (named && not handle.is_owner) (slot_with_holder_less (slot_of contents handle.id))))
 
     withdrawn_parts : (named : Bool) → with_slot (if named then without_name contents handle.path else contents) handle.id Ended
         ≡ record { names = names_left handle.path named; slots = slice_set contents.slots handle.id Ended }
@@ -54,9 +54,9 @@ module _ {T : Type 0} (contents : Contents T) where
     withdrawn_parts false = refl
 
     -- a refused finish, likewise
-    pub withdrawn-is : (named : Bool) → named ≡ is_named contents handle →
-        withdrawn contents handle ≡ record { names = names_left handle.path named; slots = slice_set contents.slots handle.id Ended }
-    withdrawn-is named is =
+    pub after_withdrawal-is : (named : Bool) → named ≡ is_named contents handle →
+        after_withdrawal contents handle ≡ record { names = names_left handle.path named; slots = slice_set contents.slots handle.id Ended }
+    after_withdrawal-is named is =
         subst (λ b. with_slot (if b then without_name contents handle.path else contents) handle.id Ended
         ≡ record { names = names_left handle.path named; slots = slice_set contents.slots handle.id Ended })
         is (withdrawn_parts named)

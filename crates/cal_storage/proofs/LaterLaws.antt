@@ -7,9 +7,9 @@ use Rattle.cal_storage.specs.declared.entry.Entry.{Entry}
 use Rattle.cal_storage.specs.declared.entry.Slot.{Slot}
 use Rattle.cal_storage.specs.declared.entry.Slot.TheVariants.{Ended, Kept}
 use Rattle.cal_storage.specs.Changes.{Change, creates, opens, removes, closes, finishes, withdraws, sets_value, sets_version, after, after_all}
-use Rattle.cal_storage.specs.Contents.{Contents, Handle, kept, changed, held, let_go, left_of, valued, versioned, id_at, slot_of, entry_of, with_slot, without_name, created, opened, name_taken, removed, is_named, closed, finished, withdrawn, with_value, version_at, version_set}
+use Rattle.cal_storage.specs.Contents.{Contents, Handle, entry_in, slot_with, slot_with_holder, slot_with_holder_less, slot_if_used, slot_with_value, slot_with_version, id_at, slot_of, entry_of, with_slot, without_name, after_creation, after_opening, without_found_name, after_removal, is_named, after_close, after_finish, after_withdrawal, with_value, with_version_of, with_version}
 use Rattle.cal_storage.specs.ContentsLaws.{IsLater, one_holder_more, one_holder_less}
-use Rattle.cal_storage.proofs.Keeping.{left_of-held, entry_of-with_slot-same, entry_of-with_slot-other, slot_of-created-other}
+use Rattle.cal_storage.specs.SoundnessLemmas.{slot_if_used-slot_with_holder, entry_of-with_slot-same, entry_of-with_slot-other, slot_of-after_creation-other}
 
 module _ {T : Type 0} where
   -- where an id has an entry that it had, under the same path, an entry that had ended stays so
@@ -42,8 +42,8 @@ module _ {T : Type 0} where
       paths_chain (entry_of first id) (entry_of second id) entry (λ middle at. one.same id middle within at) (two.same id entry (omega (arith, within, one.made)) is))
 
   -- where a slot keeps the path of its entry
-  module _ (contents : Contents T) (names : List (List ℕ × ℕ)) (id : ℕ) (change : Slot T → Slot T) (keeps : (slot : Slot T) (entry : Entry T) → kept (change slot) ≡ Some entry → IsSomeAnd (kept slot) (λ before. before.path ≡ entry.path)) where
-    no_entry : (slot : Slot T) → ((entry : Entry T) → kept slot ≡ Some entry → ⊥) → slot ≡ Ended
+  module _ (contents : Contents T) (names : List (List ℕ × ℕ)) (id : ℕ) (change : Slot T → Slot T) (keeps : (slot : Slot T) (entry : Entry T) → entry_in (change slot) ≡ Some entry → IsSomeAnd (entry_in slot) (λ before. before.path ≡ entry.path)) where
+    no_entry : (slot : Slot T) → ((entry : Entry T) → entry_in slot ≡ Some entry → ⊥) → slot ≡ Ended
     no_entry Ended never = refl
     no_entry (Kept entry) never = absurd (never entry refl)
 
@@ -56,83 +56,83 @@ module _ {T : Type 0} where
         (omega (arith, length-set contents.slots id (change (slot_of contents id))))
         (λ other entry within is. elim (cases_eq other id) [
           | inl same ↦
-              let at : kept (change (slot_of contents id)) ≡ Some entry =
+              let at : entry_in (change (slot_of contents id)) ≡ Some entry =
               sym (entry_of-with_slot-same contents id (change (slot_of contents id)) stays_ended) ∙ ap (entry_of (with_slot contents id (change (slot_of contents id)))) (sym same) ∙ is in
               subst (λ i. IsSomeAnd (entry_of contents i) (λ before. before.path ≡ entry.path)) (sym same) (keeps (slot_of contents id) entry at)
           | inr apart ↦ its_own (entry_of contents other) entry (sym (entry_of-with_slot-other contents id (change (slot_of contents id)) other apart) ∙ is)
         ])
 
   module _ (change : Entry T → Entry T) (keeps_path : (entry : Entry T) → (change entry).path ≡ entry.path) where
-    changed-keeps : (slot : Slot T) (entry : Entry T) → kept (changed change slot) ≡ Some entry → IsSomeAnd (kept slot) (λ before. before.path ≡ entry.path)
-    changed-keeps Ended entry is = absurd (none-some entry is)
-    changed-keeps (Kept old) entry is = sym (keeps_path old) ∙ ap (λ (e : Entry T). e.path) (same_Some (change old) entry is)
+    slot_with-keeps : (slot : Slot T) (entry : Entry T) → entry_in (slot_with change slot) ≡ Some entry → IsSomeAnd (entry_in slot) (λ before. before.path ≡ entry.path)
+    slot_with-keeps Ended entry is = absurd (none-some entry is)
+    slot_with-keeps (Kept old) entry is = sym (keeps_path old) ∙ ap (λ (e : Entry T). e.path) (same_Some (change old) entry is)
 
-  left_of-keeps : (has_name : Bool) (slot : Slot T) (entry : Entry T) → kept (left_of has_name slot) ≡ Some entry → IsSomeAnd (kept slot) (λ before. before.path ≡ entry.path)
-  left_of-keeps has_name slot entry is = its_own (kept slot) entry ((left_of-held has_name slot entry is).1)
+  slot_if_used-keeps : (has_name : Bool) (slot : Slot T) (entry : Entry T) → entry_in (slot_if_used has_name slot) ≡ Some entry → IsSomeAnd (entry_in slot) (λ before. before.path ≡ entry.path)
+  slot_if_used-keeps has_name slot entry is = its_own (entry_in slot) entry ((slot_if_used-slot_with_holder has_name slot entry is).1)
 
-  let_go-keeps : (has_name : Bool) (slot : Slot T) (entry : Entry T) → kept (left_of has_name (let_go slot)) ≡ Some entry → IsSomeAnd (kept slot) (λ before. before.path ≡ entry.path)
-  let_go-keeps has_name slot entry is = changed-keeps one_holder_less (λ e. refl) slot entry ((left_of-held has_name (let_go slot) entry is).1)
+  slot_with_holder_less-keeps : (has_name : Bool) (slot : Slot T) (entry : Entry T) → entry_in (slot_if_used has_name (slot_with_holder_less slot)) ≡ Some entry → IsSomeAnd (entry_in slot) (λ before. before.path ≡ entry.path)
+  slot_with_holder_less-keeps has_name slot entry is = slot_with-keeps one_holder_less (λ e. refl) slot entry ((slot_if_used-slot_with_holder has_name (slot_with_holder_less slot) entry is).1)
 
-  finish-keeps : (value : T) (version : ℕ) (slot : Slot T) (entry : Entry T) → kept (versioned version (valued value slot)) ≡ Some entry → IsSomeAnd (kept slot) (λ before. before.path ≡ entry.path)
+  finish-keeps : (value : T) (version : ℕ) (slot : Slot T) (entry : Entry T) → entry_in (slot_with_version version (slot_with_value value slot)) ≡ Some entry → IsSomeAnd (entry_in slot) (λ before. before.path ≡ entry.path)
   finish-keeps value version Ended entry is = absurd (none-some entry is)
   finish-keeps value version (Kept old) entry is = ap (λ (e : Entry T). e.path) (same_Some _ entry is)
 
   module _ (contents : Contents T) where
-    pub created-IsLater : (path : List ℕ) (value : T) (version : ℕ) → IsLater contents (created contents path value version)
-    created-IsLater path value version =
-        later contents (created contents path value version)
+    pub after_creation-IsLater : (path : List ℕ) (value : T) (version : ℕ) → IsLater contents (after_creation contents path value version)
+    after_creation-IsLater path value version =
+        later contents (after_creation contents path value version)
         (omega (arith, length_push contents.slots (Kept (record { path = path; value = value; version = version; holders = 1 }))))
-        (λ id entry within is. its_own (entry_of contents id) entry (sym (ap kept (slot_of-created-other contents path value version id (λ same. omega (arith, within, same)))) ∙ is))
+        (λ id entry within is. its_own (entry_of contents id) entry (sym (ap entry_in (slot_of-after_creation-other contents path value version id (λ same. omega (arith, within, same)))) ∙ is))
 
-    pub opened-IsLater : (id : ℕ) → IsLater contents (opened contents id)
-    opened-IsLater id = set-IsLater contents contents.names id held (changed-keeps one_holder_more (λ e. refl))
+    pub after_opening-IsLater : (id : ℕ) → IsLater contents (after_opening contents id)
+    after_opening-IsLater id = set-IsLater contents contents.names id slot_with_holder (slot_with-keeps one_holder_more (λ e. refl))
 
     pub with_value-IsLater : (id : ℕ) (value : T) → IsLater contents (with_value contents id value)
-    with_value-IsLater id value = set-IsLater contents contents.names id (valued value) (changed-keeps (λ entry. record entry { value = value }) (λ e. refl))
+    with_value-IsLater id value = set-IsLater contents contents.names id (slot_with_value value) (slot_with-keeps (λ entry. record entry { value = value }) (λ e. refl))
 
-    pub finished-IsLater : (id : ℕ) (value : T) (version : ℕ) → IsLater contents (finished contents id value version)
-    finished-IsLater id value version = set-IsLater contents contents.names id (λ slot. versioned version (valued value slot)) (finish-keeps value version)
+    pub after_finish-IsLater : (id : ℕ) (value : T) (version : ℕ) → IsLater contents (after_finish contents id value version)
+    after_finish-IsLater id value version = set-IsLater contents contents.names id (λ slot. slot_with_version version (slot_with_value value slot)) (finish-keeps value version)
 
-    version_at-IsLater : (version : ℕ) (at : Option ℕ) → IsLater contents (version_at contents version at)
-    version_at-IsLater version None = IsLater-same contents
-    version_at-IsLater version (Some id) = set-IsLater contents contents.names id (versioned version) (changed-keeps (λ entry. record entry { version = version }) (λ e. refl))
+    with_version_of-IsLater : (version : ℕ) (at : Option ℕ) → IsLater contents (with_version_of contents version at)
+    with_version_of-IsLater version None = IsLater-same contents
+    with_version_of-IsLater version (Some id) = set-IsLater contents contents.names id (slot_with_version version) (slot_with-keeps (λ entry. record entry { version = version }) (λ e. refl))
 
-    pub version_set-IsLater : (path : List ℕ) (version : ℕ) → IsLater contents (version_set contents path version)
-    version_set-IsLater path version = version_at-IsLater version (id_at contents path)
+    pub with_version-IsLater : (path : List ℕ) (version : ℕ) → IsLater contents (with_version contents path version)
+    with_version-IsLater path version = with_version_of-IsLater version (id_at contents path)
 
-    name_taken-IsLater : (path : List ℕ) (at : Option ℕ) → IsLater contents (name_taken contents path at)
-    name_taken-IsLater path None = IsLater-same contents
-    name_taken-IsLater path (Some id) = set-IsLater contents _ id (left_of false) (left_of-keeps false)
+    without_found_name-IsLater : (path : List ℕ) (at : Option ℕ) → IsLater contents (without_found_name contents path at)
+    without_found_name-IsLater path None = IsLater-same contents
+    without_found_name-IsLater path (Some id) = set-IsLater contents _ id (slot_if_used false) (slot_if_used-keeps false)
 
-    pub removed-IsLater : (path : List ℕ) → IsLater contents (removed contents path)
-    removed-IsLater path = name_taken-IsLater path (id_at contents path)
+    pub after_removal-IsLater : (path : List ℕ) → IsLater contents (after_removal contents path)
+    after_removal-IsLater path = without_found_name-IsLater path (id_at contents path)
 
     module _ (handle : Handle) where
-      closing : (is_owner named : Bool) → IsLater contents (with_slot (if is_owner then (if named then without_name contents handle.path else contents) else contents) handle.id (left_of (named && not is_owner) (let_go (slot_of contents handle.id))))
-      closing true true = set-IsLater contents _ handle.id (λ slot. left_of false (let_go slot)) (let_go-keeps false)
-      closing true false = set-IsLater contents _ handle.id (λ slot. left_of false (let_go slot)) (let_go-keeps false)
-      closing false true = set-IsLater contents _ handle.id (λ slot. left_of true (let_go slot)) (let_go-keeps true)
-      closing false false = set-IsLater contents _ handle.id (λ slot. left_of false (let_go slot)) (let_go-keeps false)
+      closing : (is_owner named : Bool) → IsLater contents (with_slot (if is_owner then (if named then without_name contents handle.path else contents) else contents) handle.id (slot_if_used (named && not is_owner) (slot_with_holder_less (slot_of contents handle.id))))
+      closing true true = set-IsLater contents _ handle.id (λ slot. slot_if_used false (slot_with_holder_less slot)) (slot_with_holder_less-keeps false)
+      closing true false = set-IsLater contents _ handle.id (λ slot. slot_if_used false (slot_with_holder_less slot)) (slot_with_holder_less-keeps false)
+      closing false true = set-IsLater contents _ handle.id (λ slot. slot_if_used true (slot_with_holder_less slot)) (slot_with_holder_less-keeps true)
+      closing false false = set-IsLater contents _ handle.id (λ slot. slot_if_used false (slot_with_holder_less slot)) (slot_with_holder_less-keeps false)
 
-      pub closed-IsLater : IsLater contents (closed contents handle)
-      closed-IsLater = closing handle.is_owner (is_named contents handle)
+      pub after_close-IsLater : IsLater contents (after_close contents handle)
+      after_close-IsLater = closing handle.is_owner (is_named contents handle)
 
       withdrawing : (named : Bool) → IsLater contents (with_slot (if named then without_name contents handle.path else contents) handle.id Ended)
       withdrawing true = set-IsLater contents _ handle.id (λ slot. Ended) (λ slot entry is. absurd (none-some entry is))
       withdrawing false = set-IsLater contents _ handle.id (λ slot. Ended) (λ slot entry is. absurd (none-some entry is))
 
-      pub withdrawn-IsLater : IsLater contents (withdrawn contents handle)
-      withdrawn-IsLater = withdrawing (is_named contents handle)
+      pub after_withdrawal-IsLater : IsLater contents (after_withdrawal contents handle)
+      after_withdrawal-IsLater = withdrawing (is_named contents handle)
 
     pub after-IsLater : (change : Change T) → IsLater contents (after contents change)
-    after-IsLater (creates path value version) = created-IsLater path value version
-    after-IsLater (opens id) = opened-IsLater id
-    after-IsLater (removes path) = removed-IsLater path
-    after-IsLater (closes handle) = closed-IsLater handle
-    after-IsLater (finishes id value version) = finished-IsLater id value version
-    after-IsLater (withdraws handle) = withdrawn-IsLater handle
+    after-IsLater (creates path value version) = after_creation-IsLater path value version
+    after-IsLater (opens id) = after_opening-IsLater id
+    after-IsLater (removes path) = after_removal-IsLater path
+    after-IsLater (closes handle) = after_close-IsLater handle
+    after-IsLater (finishes id value version) = after_finish-IsLater id value version
+    after-IsLater (withdraws handle) = after_withdrawal-IsLater handle
     after-IsLater (sets_value id value) = with_value-IsLater id value
-    after-IsLater (sets_version path version) = version_set-IsLater path version
+    after-IsLater (sets_version path version) = with_version-IsLater path version
 
   pub after_all-IsLater : (contents : Contents T) (changes : List (Change T)) → IsLater contents (after_all contents changes)
   after_all-IsLater contents [] = IsLater-same contents

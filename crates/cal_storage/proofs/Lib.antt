@@ -1,11 +1,6 @@
 pub mod ChangeParts
 pub mod Entering
-pub mod EntryLaws
-pub mod HandleLaws
-pub mod Holding
-pub mod Keeping
 pub mod LaterLaws
-pub mod NameLists
 pub mod Naming
 pub mod OpenLaws
 pub mod Refusing

@@ -8,7 +8,7 @@ use Rattle.cal_names.specs.FilePath.{IsFilePath}
 use Rattle.cal_names.specs.NamedConceptMgmt.{is_name, is_name-same}
 use Rattle.cal_storage.specs.Contents.{Contents, id_at, is_path}
 use Rattle.cal_storage.specs.Soundness.{IsSound}
-use Rattle.cal_storage.proofs.NameLists.{keys-remove_entry, list_any-keys, filter-keeps_all, list_any-none, is_path-same, cases_path}
+use Rattle.cal_storage.specs.NameLists.{keys-remove_entry, list_any-keys, filter-keeps_all, list_any-none, is_path-same, cases_path}
 
 is_name-true : (name : List ℕ) (shown : Option (List ℕ)) → is_name name shown ≡ true → shown ≡ Some name
 is_name-true name None is = absurd (cc)

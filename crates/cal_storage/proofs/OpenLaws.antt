@@ -6,13 +6,13 @@ use Rattle.std.proofs.lemmas.List.Sums.{sum_by-cons}
 use Rattle.cal_storage.specs.declared.entry.Entry.{Entry}
 use Rattle.cal_storage.specs.declared.entry.Slot.TheVariants.{Ended}
 use Rattle.cal_storage.specs.Changes.{Change, creates, opens, removes, closes, finishes, withdraws, sets_value, sets_version, after, after_all, IsAllowed}
-use Rattle.cal_storage.specs.Contents.{Contents, Handle, is_id, kept, one_more, one_less, nothing_registered, id_at, entry_of, Has, created}
+use Rattle.cal_storage.specs.Contents.{Contents, Handle, is_id, entry_in, one_more, one_less, nothing_registered, id_at, entry_of, Has, after_creation}
 use Rattle.cal_storage.specs.ContentsLaws.{ChangesEntry, ChangesNamedEntry, TakesName, LetsGo, one_holder_more, one_holder_less, if_held}
 use Rattle.cal_storage.specs.OpenHandles.{open_on, with_one_closed, ServesHandles, open_after, open_after_all, HasHandle, IsRunOfHandles}
 use Rattle.cal_storage.specs.Soundness.{IsSound}
-use Rattle.cal_storage.proofs.EntryLaws.{opened-ChangesEntry, with_value-ChangesEntry, finished-ChangesEntry, version_set-ChangesNamedEntry, created-MakesEntry, removed-TakesName, closed-LetsGo, withdrawn-Withdraws}
-use Rattle.cal_storage.proofs.HandleLaws.{has_entry, after-IsSound}
-use Rattle.cal_storage.proofs.Keeping.{is_id-true, is_id-same}
+use Rattle.cal_storage.specs.EntryLemmas.{after_opening-ChangesEntry, with_value-ChangesEntry, after_finish-ChangesEntry, with_version-ChangesNamedEntry, after_creation-MakesEntry, after_removal-TakesName, after_close-LetsGo, after_withdrawal-Withdraws}
+use Rattle.cal_storage.specs.HandleLemmas.{has_entry, after-IsSound}
+use Rattle.cal_storage.specs.SoundnessLemmas.{is_id-true, is_id-same}
 use Rattle.cal_storage.proofs.LaterLaws.{after_all-IsLater}
 
 -- ---- counts of open handles
@@ -26,9 +26,9 @@ open_on-same others id = open_on-cons id others id ∙ ap (λ n. n + open_on oth
 open_on-other : (other : ℕ) (others : List ℕ) (id : ℕ) → id ≢ other → open_on (other ∷ others) id ≡ open_on others id
 open_on-other other others id apart = open_on-cons other others id ∙ ap (λ n. n + open_on others id) (cond-false (other == id) 1 0 (ne_eqb other id (λ same. apart (sym same)))) ∙ omega arith
 
-closed-same : (open_handles : List ℕ) (id : ℕ) → 0 < open_on open_handles id → 1 + open_on (with_one_closed open_handles id) id ≡ open_on open_handles id
-closed-same [] id some = absurd (omega arith)
-closed-same (other ∷ others) id some =
+after_close-same : (open_handles : List ℕ) (id : ℕ) → 0 < open_on open_handles id → 1 + open_on (with_one_closed open_handles id) id ≡ open_on open_handles id
+after_close-same [] id some = absurd (omega arith)
+after_close-same (other ∷ others) id some =
     elim (cases_eq id other) [
       | inl same ↦
           ap (λ l. 1 + open_on l id) (cond-true (other == id) others (other ∷ with_one_closed others id) (eq-eqb other id (sym same)))
@@ -37,13 +37,13 @@ closed-same (other ∷ others) id some =
           let left : 0 < open_on others id = omega (arith, some, open_on-other other others id apart) in
           ap (λ l. 1 + open_on l id) (cond-false (other == id) others (other ∷ with_one_closed others id) (ne_eqb other id (λ same. apart (sym same))))
           ∙ ap (λ n. 1 + n) (open_on-other other (with_one_closed others id) id apart)
-          ∙ closed-same others id left
+          ∙ after_close-same others id left
           ∙ sym (open_on-other other others id apart)
     ]
 
-closed-other : (open_handles : List ℕ) (id another : ℕ) → another ≢ id → open_on (with_one_closed open_handles id) another ≡ open_on open_handles another
-closed-other [] id another apart = refl
-closed-other (other ∷ others) id another apart =
+after_close-other : (open_handles : List ℕ) (id another : ℕ) → another ≢ id → open_on (with_one_closed open_handles id) another ≡ open_on open_handles another
+after_close-other [] id another apart = refl
+after_close-other (other ∷ others) id another apart =
     elim (cases_eq other id) [
       | inl same ↦
           ap (λ l. open_on l another) (cond-true (other == id) others (other ∷ with_one_closed others id) (eq-eqb other id same))
@@ -51,7 +51,7 @@ closed-other (other ∷ others) id another apart =
       | inr differs ↦
           ap (λ l. open_on l another) (cond-false (other == id) others (other ∷ with_one_closed others id) (ne_eqb other id differs))
           ∙ open_on-cons other (with_one_closed others id) another
-          ∙ ap (λ n. cond (other == another) 1 0 + n) (closed-other others id another apart)
+          ∙ ap (λ n. cond (other == another) 1 0 + n) (after_close-other others id another apart)
           ∙ sym (open_on-cons other others another)
     ]
 
@@ -143,20 +143,20 @@ module _ {T : Type 0} where
         elim (cases_eq (open_on open_handles (length contents.slots)) 0) [
           | inl none ↦ none
           | inr some ↦
-              let past : entry_of contents (length contents.slots) ≡ None = ap kept (get_or_past contents.slots (length contents.slots) Ended (omega arith)) in
+              let past : entry_of contents (length contents.slots) ≡ None = ap entry_in (get_or_past contents.slots (length contents.slots) Ended (omega arith)) in
               absurd (subst (λ o. Serves o (open_on open_handles (length contents.slots))) past (before (length contents.slots) (omega arith)))
         ]
 
-    serves_creates : (path : List ℕ) (value : T) (version : ℕ) → ServesHandles (created contents path value version) (length contents.slots ∷ open_handles)
+    serves_creates : (path : List ℕ) (value : T) (version : ℕ) → ServesHandles (after_creation contents path value version) (length contents.slots ∷ open_handles)
     serves_creates path value version = record {
       entries = λ id some. elim (cases_eq id (length contents.slots)) [
         | inl same ↦
             let count : open_on (length contents.slots ∷ open_handles) id ≡ 1 = ap (open_on (length contents.slots ∷ open_handles)) same ∙ open_on-same open_handles (length contents.slots) ∙ ap (λ n. 1 + n) none_yet in
-            let made = created-MakesEntry contents path value version in
-            serves_by (entry_of (created contents path value version) id) (open_on (length contents.slots ∷ open_handles) id) (record { path = path; value = value; version = version; holders = 1 }) (ap (entry_of (created contents path value version)) same ∙ made.entry) (rw count (omega arith))
+            let made = after_creation-MakesEntry contents path value version in
+            serves_by (entry_of (after_creation contents path value version) id) (open_on (length contents.slots ∷ open_handles) id) (record { path = path; value = value; version = version; holders = 1 }) (ap (entry_of (after_creation contents path value version)) same ∙ made.entry) (rw count (omega arith))
         | inr apart ↦
             let count : open_on (length contents.slots ∷ open_handles) id ≡ open_on open_handles id = open_on-other (length contents.slots) open_handles id apart in
-            let made = created-MakesEntry contents path value version in
+            let made = after_creation-MakesEntry contents path value version in
             serves_at (entry_of contents id) _ (open_on open_handles id) _ (made.others.entries id apart) count (before id (omega (arith, some, count)))
       ];
     }
@@ -215,12 +215,12 @@ module _ {T : Type 0} where
         | inl same ↦
             let left : 0 < open_on (with_one_closed open_handles handle.id) handle.id = subst (λ i. 0 < open_on (with_one_closed open_handles handle.id) i) same some in
             let enough : min (1 + open_on (with_one_closed open_handles handle.id) handle.id) (2 ^ 64 - 1) ≤ entry.holders =
-            subst (λ n. min n (2 ^ 64 - 1) ≤ entry.holders) (sym (closed-same open_handles handle.id is_open)) (holders_of (entry_of contents handle.id) (open_on open_handles handle.id) entry is (before handle.id is_open)) in
+            subst (λ n. min n (2 ^ 64 - 1) ≤ entry.holders) (sym (after_close-same open_handles handle.id is_open)) (holders_of (entry_of contents handle.id) (open_on open_handles handle.id) entry is (before handle.id is_open)) in
             let still = one_less_serves (open_on (with_one_closed open_handles handle.id) handle.id) entry.holders left enough in
             subst (λ i. Serves (entry_of new i) (open_on (with_one_closed open_handles handle.id) i)) (sym same)
             (serves_by (entry_of new handle.id) (open_on (with_one_closed open_handles handle.id) handle.id) (one_holder_less entry) (goes.stays (inl still.1)) still.0)
         | inr apart ↦
-            let count : open_on (with_one_closed open_handles handle.id) another ≡ open_on open_handles another = closed-other open_handles handle.id another apart in
+            let count : open_on (with_one_closed open_handles handle.id) another ≡ open_on open_handles another = after_close-other open_handles handle.id another apart in
             serves_at (entry_of contents another) _ (open_on open_handles another) _ (goes.others.entries another apart) count (before another (omega (arith, some, count)))
       ];
     }
@@ -237,15 +237,15 @@ module _ {T : Type 0} where
 
     pub after-ServesHandles : (change : Change T) → IsSound contents → IsAllowed contents change → HasHandle contents open_handles change → ServesHandles (after contents change) (open_after contents open_handles change)
     after-ServesHandles (creates path value version) sound allowed own = serves_creates path value version
-    after-ServesHandles (opens id) sound allowed own = serves_opens _ id (opened-ChangesEntry contents id) own
-    after-ServesHandles (removes path) sound allowed own = serves_removes _ path (removed-TakesName contents sound path)
+    after-ServesHandles (opens id) sound allowed own = serves_opens _ id (after_opening-ChangesEntry contents id) own
+    after-ServesHandles (removes path) sound allowed own = serves_removes _ path (after_removal-TakesName contents sound path)
     after-ServesHandles (closes handle) sound allowed own =
-        let at = has_entry contents handle allowed in serves_closes _ handle at.0 at.1 own (closed-LetsGo contents sound handle at.0 at.1)
-    after-ServesHandles (finishes id value version) sound allowed own = serves_entry _ id _ (λ entry. refl) (finished-ChangesEntry contents id value version)
+        let at = has_entry contents handle allowed in serves_closes _ handle at.0 at.1 own (after_close-LetsGo contents sound handle at.0 at.1)
+    after-ServesHandles (finishes id value version) sound allowed own = serves_entry _ id _ (λ entry. refl) (after_finish-ChangesEntry contents id value version)
     after-ServesHandles (withdraws handle) sound allowed own =
-        let gone = withdrawn-Withdraws contents sound handle in serves_withdraws _ handle.id gone.others.entries
+        let gone = after_withdrawal-Withdraws contents sound handle in serves_withdraws _ handle.id gone.others.entries
     after-ServesHandles (sets_value id value) sound allowed own = serves_entry _ id _ (λ entry. refl) (with_value-ChangesEntry contents id value)
-    after-ServesHandles (sets_version path version) sound allowed own = serves_named _ path _ (λ entry. refl) (version_set-ChangesNamedEntry contents path version)
+    after-ServesHandles (sets_version path version) sound allowed own = serves_named _ path _ (λ entry. refl) (with_version-ChangesNamedEntry contents path version)
 
   pub nothing_registered-ServesHandles : ServesHandles {T = T} nothing_registered []
   nothing_registered-ServesHandles = record { entries = λ id some. absurd (omega arith) }
@@ -267,7 +267,7 @@ module _ {T : Type 0} where
 
       within : (handle.id < length contents.slots) ⊎ (length contents.slots ≤ handle.id) → handle.id < length contents.slots
       within (inl h) = h
-      within (inr past) = absurd (subst (λ o. IsSomeAnd o (λ entry. entry.path ≡ handle.path)) (ap kept (get_or_past contents.slots handle.id Ended past)) has)
+      within (inr past) = absurd (subst (λ o. IsSomeAnd o (λ entry. entry.path ≡ handle.path)) (ap entry_in (get_or_past contents.slots handle.id Ended past)) has)
 
       from : (at : Option (Entry T)) → entry_of (after_all contents changes) handle.id ≡ at → Serves at (open_on (open_after_all contents open_handles changes) handle.id) → Has (after_all contents changes) handle
       from None is h = absurd h

@@ -4,7 +4,7 @@ use Rattle.std.proofs.lemmas.Bool.{cases_lt}
 use Rattle.std.proofs.lemmas.List.{get_or_past}
 use Rattle.cal_storage.specs.declared.entry.Entry.{Entry}
 use Rattle.cal_storage.specs.declared.entry.Slot.TheVariants.{Ended}
-use Rattle.cal_storage.specs.Contents.{Contents, Handle, Has, kept, id_at, entry_of}
+use Rattle.cal_storage.specs.Contents.{Contents, Handle, Has, entry_in, id_at, entry_of}
 use Rattle.cal_storage.specs.Soundness.{IsSound}
 
 module _ {T : Type 0} (contents : Contents T) where
@@ -12,7 +12,7 @@ module _ {T : Type 0} (contents : Contents T) where
   entry_within P id there =
       elim (cases_lt id (length contents.slots)) [
         | inl within ↦ within
-        | inr past ↦ absurd (subst (λ slot. IsSomeAnd (kept slot) P) (get_or_past contents.slots id Ended past) there)
+        | inr past ↦ absurd (subst (λ slot. IsSomeAnd (entry_in slot) P) (get_or_past contents.slots id Ended past) there)
       ]
 
   -- a handle's id does, where the registry has its entry

@@ -1,7 +1,7 @@
 -- The changes that calls make to a registry, and runs of them.
 use Rattle.std.specs.Prelude.{◌≡◌, ◌≢◌, ℕ, ◌<◌, Some, None, IsSomeAnd, List, [], ◌∷◌, ⊤}
 use Rattle.cal_names.specs.FilePath.{IsFilePath}
-use Rattle.cal_storage.specs.Contents.{Contents, Handle, id_at, entry_of, Has, created, opened, removed, closed, finished, withdrawn, with_value, version_set}
+use Rattle.cal_storage.specs.Contents.{Contents, Handle, id_at, entry_of, Has, after_creation, after_opening, after_removal, after_close, after_finish, after_withdrawal, with_value, with_version}
 
 -- what one call changes
 pub data Change (T : Type 0) : Type 0 where
@@ -17,14 +17,14 @@ pub data Change (T : Type 0) : Type 0 where
 module _ {T : Type 0} where
   -- what a registry has after a change
   abbrev pub after : Contents T → Change T → Contents T
-  after contents (creates path value version) = created contents path value version
-  after contents (opens id) = opened contents id
-  after contents (removes path) = removed contents path
-  after contents (closes handle) = closed contents handle
-  after contents (finishes id value version) = finished contents id value version
-  after contents (withdraws handle) = withdrawn contents handle
+  after contents (creates path value version) = after_creation contents path value version
+  after contents (opens id) = after_opening contents id
+  after contents (removes path) = after_removal contents path
+  after contents (closes handle) = after_close contents handle
+  after contents (finishes id value version) = after_finish contents id value version
+  after contents (withdraws handle) = after_withdrawal contents handle
   after contents (sets_value id value) = with_value contents id value
-  after contents (sets_version path version) = version_set contents path version
+  after contents (sets_version path version) = with_version contents path version
 
   -- an entry is made under a file path that stands for nothing, and a handle that closes or withdraws has its entry
   abbrev pub IsAllowed : Contents T → Change T → Type 0

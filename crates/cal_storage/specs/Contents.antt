@@ -37,33 +37,33 @@ found_handle path id = record { id = id; path = path; is_owner = false }
 
 module _ {T : Type 0} where
   -- the entry in a slot
-  abbrev pub kept : Slot T → Option (Entry T)
-  kept Ended = None
-  kept (Kept entry) = Some entry
+  abbrev pub entry_in : Slot T → Option (Entry T)
+  entry_in Ended = None
+  entry_in (Kept entry) = Some entry
 
   -- a slot whose entry, if there is one, has changed
-  abbrev pub changed : (Entry T → Entry T) → Slot T → Slot T
-  changed change Ended = Ended
-  changed change (Kept entry) = Kept (change entry)
+  abbrev pub slot_with : (Entry T → Entry T) → Slot T → Slot T
+  slot_with change Ended = Ended
+  slot_with change (Kept entry) = Kept (change entry)
 
   -- with one holder more, and with one less
-  abbrev pub held : Slot T → Slot T
-  held slot = changed (λ entry. record entry { holders = one_more entry.holders }) slot
+  abbrev pub slot_with_holder : Slot T → Slot T
+  slot_with_holder slot = slot_with (λ entry. record entry { holders = one_more entry.holders }) slot
 
-  abbrev pub let_go : Slot T → Slot T
-  let_go slot = changed (λ entry. record entry { holders = one_less entry.holders }) slot
+  abbrev pub slot_with_holder_less : Slot T → Slot T
+  slot_with_holder_less slot = slot_with (λ entry. record entry { holders = one_less entry.holders }) slot
 
   -- with another value, and with another version
-  abbrev pub valued : T → Slot T → Slot T
-  valued value slot = changed (λ entry. record entry { value = value }) slot
+  abbrev pub slot_with_value : T → Slot T → Slot T
+  slot_with_value value slot = slot_with (λ entry. record entry { value = value }) slot
 
-  abbrev pub versioned : ℕ → Slot T → Slot T
-  versioned version slot = changed (λ entry. record entry { version = version }) slot
+  abbrev pub slot_with_version : ℕ → Slot T → Slot T
+  slot_with_version version slot = slot_with (λ entry. record entry { version = version }) slot
 
   -- an entry for which no name stands has ended where nobody holds it
-  abbrev pub left_of : Bool → Slot T → Slot T
-  left_of has_name Ended = Ended
-  left_of has_name (Kept entry) = if not has_name && entry.holders == 0 then Ended else Kept entry
+  abbrev pub slot_if_used : Bool → Slot T → Slot T
+  slot_if_used has_name Ended = Ended
+  slot_if_used has_name (Kept entry) = if not has_name && entry.holders == 0 then Ended else Kept entry
 
   -- no name and no id
   abbrev pub nothing_registered : Contents T
@@ -78,7 +78,7 @@ module _ {T : Type 0} where
   slot_of contents id = slice_index_or contents.slots id Ended
 
   abbrev pub entry_of : Contents T → ℕ → Option (Entry T)
-  entry_of contents id = kept (slot_of contents id)
+  entry_of contents id = entry_in (slot_of contents id)
 
   -- the entry for which a path stands
   abbrev pub entry_at : Contents T → List ℕ → Option (Entry T)
@@ -87,6 +87,10 @@ module _ {T : Type 0} where
   -- the value of an id
   abbrev pub value_of : Contents T → ℕ → Option T
   value_of contents id = option_map (λ entry. entry.value) (entry_of contents id)
+
+  -- the value for which a path stands
+  abbrev pub value_at : Contents T → List ℕ → Option T
+  value_at contents path = option_map (λ entry. entry.value) (entry_at contents path)
 
   -- the registry has the entry of a handle
   abbrev pub Has : Contents T → Handle → Type 0
@@ -99,8 +103,8 @@ module _ {T : Type 0} where
   without_name contents path = record contents { names = remove_entry (is_path path) contents.names }
 
   -- a path stands for a new entry, which has one holder
-  abbrev pub created : Contents T → List ℕ → T → ℕ → Contents T
-  created contents path value version = record {
+  abbrev pub after_creation : Contents T → List ℕ → T → ℕ → Contents T
+  after_creation contents path value version = record {
     names = insert_entry (slice_cmp nat_cmp) contents.names path (length contents.slots);
     slots = contents.slots ++ Kept (record { path = path; value = value; version = version; holders = 1 }) ∷ [];
   }
@@ -110,48 +114,48 @@ module _ {T : Type 0} where
   new_handle contents path is_owner = record { id = length contents.slots; path = path; is_owner = is_owner }
 
   -- an entry has one holder more
-  abbrev pub opened : Contents T → ℕ → Contents T
-  opened contents id = with_slot contents id (held (slot_of contents id))
+  abbrev pub after_opening : Contents T → ℕ → Contents T
+  after_opening contents id = with_slot contents id (slot_with_holder (slot_of contents id))
 
   -- a path doesn't stand for its entry any more, which stays while somebody holds it
-  abbrev pub name_taken : Contents T → List ℕ → Option ℕ → Contents T
-  name_taken contents path None = contents
-  name_taken contents path (Some id) = with_slot (without_name contents path) id (left_of false (slot_of contents id))
+  abbrev pub without_found_name : Contents T → List ℕ → Option ℕ → Contents T
+  without_found_name contents path None = contents
+  without_found_name contents path (Some id) = with_slot (without_name contents path) id (slot_if_used false (slot_of contents id))
 
-  abbrev pub removed : Contents T → List ℕ → Contents T
-  removed contents path = name_taken contents path (id_at contents path)
+  abbrev pub after_removal : Contents T → List ℕ → Contents T
+  after_removal contents path = without_found_name contents path (id_at contents path)
 
   -- whether the name of a handle still stands for the handle's id
   abbrev pub is_named : Contents T → Handle → Bool
   is_named contents handle = is_id (id_at contents handle.path) handle.id
 
   -- without the name of a handle, where this still stands for the handle's id
-  abbrev pub disowned : Contents T → Handle → Contents T
-  disowned contents handle = if is_named contents handle then without_name contents handle.path else contents
+  abbrev pub without_own_name : Contents T → Handle → Contents T
+  without_own_name contents handle = if is_named contents handle then without_name contents handle.path else contents
 
   -- an entry has one holder less. Where the handle is the owner its name goes; the entry stays while a holder or a name is left.
-  abbrev pub closed : Contents T → Handle → Contents T
-  closed contents handle =
+  abbrev pub after_close : Contents T → Handle → Contents T
+  after_close contents handle =
       let stays_named : Bool = is_named contents handle && not handle.is_owner in
-      with_slot (if handle.is_owner then disowned contents handle else contents) handle.id
-      (left_of stays_named (let_go (slot_of contents handle.id)))
+      with_slot (if handle.is_owner then without_own_name contents handle else contents) handle.id
+      (slot_if_used stays_named (slot_with_holder_less (slot_of contents handle.id)))
 
   -- an entry that was being made has this value, and is finished with this version
-  abbrev pub finished : Contents T → ℕ → T → ℕ → Contents T
-  finished contents id value version = with_slot contents id (versioned version (valued value (slot_of contents id)))
+  abbrev pub after_finish : Contents T → ℕ → T → ℕ → Contents T
+  after_finish contents id value version = with_slot contents id (slot_with_version version (slot_with_value value (slot_of contents id)))
 
   -- an entry has ended at once, and so has its name, where this still stands for it
-  abbrev pub withdrawn : Contents T → Handle → Contents T
-  withdrawn contents handle = with_slot (disowned contents handle) handle.id Ended
+  abbrev pub after_withdrawal : Contents T → Handle → Contents T
+  after_withdrawal contents handle = with_slot (without_own_name contents handle) handle.id Ended
 
   -- an entry has another value
   abbrev pub with_value : Contents T → ℕ → T → Contents T
-  with_value contents id value = with_slot contents id (valued value (slot_of contents id))
+  with_value contents id value = with_slot contents id (slot_with_value value (slot_of contents id))
 
   -- the entry for which a path stands has another version
-  abbrev pub version_at : Contents T → ℕ → Option ℕ → Contents T
-  version_at contents version None = contents
-  version_at contents version (Some id) = with_slot contents id (versioned version (slot_of contents id))
+  abbrev pub with_version_of : Contents T → ℕ → Option ℕ → Contents T
+  with_version_of contents version None = contents
+  with_version_of contents version (Some id) = with_slot contents id (slot_with_version version (slot_of contents id))
 
-  abbrev pub version_set : Contents T → List ℕ → ℕ → Contents T
-  version_set contents path version = version_at contents version (id_at contents path)
+  abbrev pub with_version : Contents T → List ℕ → ℕ → Contents T
+  with_version contents path version = with_version_of contents version (id_at contents path)

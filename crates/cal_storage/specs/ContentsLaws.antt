@@ -73,3 +73,10 @@ pub record Withdraws {T : Type 0} (old new : Contents T) (handle : Handle) : Typ
   pub other_name : id_at old handle.path ≢ Some handle.id → id_at new handle.path ≡ id_at old handle.path
   pub entry : entry_of new handle.id ≡ None
   pub others : LeavesOthers old new handle.id handle.path
+
+-- The names are the same, each id has the entry that it had, and no fewer ids were made. So a registry differs from the one
+-- before in ids that were used and have ended.
+pub record KeepsEntries {T : Type 0} (old new : Contents T) : Type 0 where
+  pub names : new.names ≡ old.names
+  pub entries : (id : ℕ) → entry_of new id ≡ entry_of old id
+  pub made : length old.slots ≤ length new.slots

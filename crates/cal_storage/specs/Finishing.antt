@@ -1,7 +1,7 @@
 -- What a slot ends as whose entry was being made.
 use Rattle.std.specs.Prelude.{◌≡◌, ℕ, Bool, IsSomeAnd, if◌then◌else◌}
 use Rattle.cal_storage.specs.declared.entry.Slot.{Slot}
-use Rattle.cal_storage.specs.Contents.{kept, valued, versioned}
+use Rattle.cal_storage.specs.Contents.{entry_in, slot_with_value, slot_with_version}
 use Rattle.cal_storage.specs.Refusals.{finished_version}
 use Rattle.cal_storage.specs.Initializer.{Calls, Initializes}
 
@@ -10,5 +10,5 @@ module _ {F T : Type 0} (calls : Calls F T) where
   -- the finished version
   pub record Finishes (initializer : F) (room : ℕ) (old : Slot T) (answer : Bool) (new : Slot T) : Type 0 where
     pub left : T
-    pub initialized : IsSomeAnd (kept old) (λ entry. Initializes calls initializer entry.value room left answer)
-    pub slot : new ≡ (if answer then versioned finished_version (valued left old) else valued left old)
+    pub initialized : IsSomeAnd (entry_in old) (λ entry. Initializes calls initializer entry.value room left answer)
+    pub slot : new ≡ (if answer then slot_with_version finished_version (slot_with_value left old) else slot_with_value left old)

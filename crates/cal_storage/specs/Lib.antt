@@ -1,11 +1,16 @@
 pub mod Changes
+pub mod Configuration
 pub mod Contents
 pub mod ContentsLaws
+pub mod EntryLemmas
 pub mod Examples
 pub mod Finishing
+pub mod HandleLemmas
 pub mod Holding
+pub mod HoldingLemmas
 pub mod Initializer
 pub mod Managing
+pub mod NameLists
 pub mod OpenHandles
 pub mod Plan
 pub mod Refusals
@@ -14,4 +19,6 @@ pub mod RegistryLends
 pub mod SlotLends
 pub mod SlotsLend
 pub mod Soundness
+pub mod SoundnessLemmas
 pub mod Staged
+pub mod ValueLemmas

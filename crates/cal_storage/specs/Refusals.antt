@@ -1,12 +1,13 @@
 -- Why a creation or an opening is refused.
-use Rattle.std.specs.Prelude.{ℕ, Bool, not, nat_lt, ◌==◌, Option, Some, None, is_some, List, length, if◌then◌else◌}
+use Rattle.std.specs.Prelude.{ℕ, Bool, not, ◌&&◌, nat_lt, ◌==◌, Option, Some, None, is_some, List, length, if◌then◌else◌}
 use Rattle.cal_names.specs.ConceptSettings.{ConceptSettings, file_name_for, file_path_for}
-use Rattle.cal_storage.specs.Contents.{Contents, id_at, entry_at, removed}
+use Rattle.cal_storage.specs.Plan.{StoragePlan, path_of}
+use Rattle.cal_storage.specs.Contents.{Contents, id_at, entry_at, after_removal}
 use Rattle.cal_storage.specs.declared.entry.Entry.{Entry}
-use Rattle.cal_storage.specs.declared.dynamic_storage.DynamicStorageCreateError.{DynamicStorageCreateError}
-use Rattle.cal_storage.specs.declared.dynamic_storage.DynamicStorageCreateError.TheVariants as create
-use Rattle.cal_storage.specs.declared.dynamic_storage.DynamicStorageOpenError.{DynamicStorageOpenError}
-use Rattle.cal_storage.specs.declared.dynamic_storage.DynamicStorageOpenError.TheVariants as open_error
+use Rattle.cal_storage.specs.declared.dynamic_storage.errors.DynamicStorageCreateError.{DynamicStorageCreateError}
+use Rattle.cal_storage.specs.declared.dynamic_storage.errors.DynamicStorageCreateError.TheVariants as create
+use Rattle.cal_storage.specs.declared.dynamic_storage.errors.DynamicStorageOpenError.{DynamicStorageOpenError}
+use Rattle.cal_storage.specs.declared.dynamic_storage.errors.DynamicStorageOpenError.TheVariants as open_error
 
 -- the version of a finished entry; one that is being made has version 0
 abbrev pub finished_version : ℕ
@@ -26,28 +27,33 @@ entry_refusal checks_version (Some entry) =
     else Some open_error.VersionMismatch
 
 module _ {T : Type 0} where
-  -- why nothing is opened under a name, the first cause that holds
-  abbrev pub open_refusal : Bool → Contents T → ConceptSettings → List ℕ → Option DynamicStorageOpenError
-  open_refusal checks_version contents settings name =
-      if is_too_long settings name then Some open_error.PathTooLong
-      else entry_refusal checks_version (entry_at contents (file_path_for settings name))
+  -- why nothing is opened under a plan's path, the first cause that holds
+  abbrev pub open_refusal : Bool → Contents T → StoragePlan → Option DynamicStorageOpenError
+  open_refusal checks_version contents plan =
+      if is_too_long plan.settings plan.name then Some open_error.PathTooLong
+      else entry_refusal checks_version (entry_at contents (path_of plan))
 
-  -- why nothing is created under a name, the first cause that holds
-  abbrev pub create_refusal : Contents T → ConceptSettings → List ℕ → Option DynamicStorageCreateError
-  create_refusal contents settings name =
-      if is_too_long settings name then Some create.PathTooLong
-      else if is_some (id_at contents (file_path_for settings name)) then Some create.AlreadyExists
+  -- why nothing is created under a plan's path, the first cause that holds
+  abbrev pub create_refusal : Contents T → StoragePlan → Option DynamicStorageCreateError
+  create_refusal contents plan =
+      if is_too_long plan.settings plan.name then Some create.PathTooLong
+      else if is_some (id_at contents (path_of plan)) then Some create.AlreadyExists
       else None
 
-  -- why a name is neither opened nor created under, but for causes of the creation itself
-  abbrev pub open_or_create_refusal : Bool → Contents T → ConceptSettings → List ℕ → Option DynamicStorageOpenError
-  open_or_create_refusal checks_version contents settings name =
-      if is_too_long settings name then Some open_error.PathTooLong
-      else if is_some (id_at contents (file_path_for settings name))
-      then entry_refusal checks_version (entry_at contents (file_path_for settings name))
+  -- why nothing is opened or created under a plan's path, but for causes of the creation itself
+  abbrev pub open_or_create_refusal : Bool → Contents T → StoragePlan → Option DynamicStorageOpenError
+  open_or_create_refusal checks_version contents plan =
+      if is_too_long plan.settings plan.name then Some open_error.PathTooLong
+      else if is_some (id_at contents (path_of plan))
+      then entry_refusal checks_version (entry_at contents (path_of plan))
       else None
+
+  -- whether a name is there: its path fits, and stands for an id
+  abbrev pub has_name : ConceptSettings → List ℕ → Contents T → Bool
+  has_name settings name contents =
+      not (is_too_long settings name) && is_some (id_at contents (file_path_for settings name))
 
   -- without a name; one whose path would be too long stands for nothing
-  abbrev pub name_removed : Contents T → ConceptSettings → List ℕ → Contents T
-  name_removed contents settings name =
-      if is_too_long settings name then contents else removed contents (file_path_for settings name)
+  abbrev pub after_name_removal : ConceptSettings → List ℕ → Contents T → Contents T
+  after_name_removal settings name contents =
+      if is_too_long settings name then contents else after_removal contents (file_path_for settings name)

@@ -1,13 +1,13 @@
 -- What a creation, and the finish of an entry that was being made, make of a registry.
 use Rattle.std.specs.Prelude.{◌≡◌, ℕ, ◌⊎◌, Bool, true, false, Option, Some, None, IsSomeAnd, List, if◌then◌else◌}
-use Rattle.cal_storage.specs.Contents.{Contents, Handle, id_at, value_of, created, finished, withdrawn}
+use Rattle.cal_storage.specs.Contents.{Contents, Handle, id_at, value_of, after_creation, after_finish, after_withdrawal}
 use Rattle.cal_storage.specs.Refusals.{finished_version}
 use Rattle.cal_storage.specs.Initializer.{Calls, Initializes}
-use Rattle.cal_storage.specs.declared.dynamic_storage.DynamicStorageCreateError as create
-use Rattle.cal_storage.specs.declared.dynamic_storage.DynamicStorageOpenError as opening
-use Rattle.cal_storage.specs.declared.dynamic_storage.DynamicStorageOpenOrCreateError.{DynamicStorageOpenOrCreateError}
-use Rattle.cal_storage.specs.declared.dynamic_storage.DynamicStorageOpenOrCreateError.TheVariants.{DynamicStorageOpenError, DynamicStorageCreateError}
-use Rattle.cal_storage.specs.declared.dynamic_storage.DynamicStorageCreateError.TheVariants.{InitializationFailed, NoMemory}
+use Rattle.cal_storage.specs.declared.dynamic_storage.errors.DynamicStorageCreateError as create
+use Rattle.cal_storage.specs.declared.dynamic_storage.errors.DynamicStorageOpenError as opening
+use Rattle.cal_storage.specs.declared.dynamic_storage.errors.DynamicStorageOpenOrCreateError.{DynamicStorageOpenOrCreateError}
+use Rattle.cal_storage.specs.declared.dynamic_storage.errors.DynamicStorageOpenOrCreateError.TheVariants.{DynamicStorageOpenError, DynamicStorageCreateError}
+use Rattle.cal_storage.specs.declared.dynamic_storage.errors.DynamicStorageCreateError.TheVariants.{InitializationFailed, NoMemory}
 
 module _ {F T : Type 0} (calls : Calls F T) where
   -- The initializer answered true, and the path, which stood for nothing, stands for a new entry with the value that it left.
@@ -15,7 +15,7 @@ module _ {F T : Type 0} (calls : Calls F T) where
     pub left : T
     pub initialized : Initializes calls initializer value room left true
     pub was_free : id_at old path ≡ None
-    pub created : new ≡ created old path left finished_version
+    pub created : new ≡ after_creation old path left finished_version
 
   -- the initializer answered false
   pub record Refuses (initializer : F) (value : T) (room : ℕ) : Type 0 where
@@ -39,4 +39,4 @@ module _ {F T : Type 0} (calls : Calls F T) where
   pub record FinishesEntry (initializer : F) (room : ℕ) (old : Contents T) (handle : Handle) (answer : Bool) (new : Contents T) : Type 0 where
     pub left : T
     pub initialized : IsSomeAnd (value_of old handle.id) (λ value. Initializes calls initializer value room left answer)
-    pub contents : new ≡ (if answer then finished old handle.id left finished_version else withdrawn old handle)
+    pub contents : new ≡ (if answer then after_finish old handle.id left finished_version else after_withdrawal old handle)

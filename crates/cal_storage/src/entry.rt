@@ -3,7 +3,7 @@ ghost use Rattle.std.specs.Prelude.{◌≡◌, ◌≤◌, ◌^◌, true, IsSome,
 ghost use Rattle.std.specs.Borrow.{sem};
 ghost use Rattle.std.specs.Option.{option_copied, option_map};
 ghost use Rattle.std.specs.Result.{result_err};
-ghost use Rattle.cal_storage.specs.Contents.{kept, held, let_go, versioned, left_of, valued};
+ghost use Rattle.cal_storage.specs.Contents.{entry_in, slot_with_holder, slot_with_holder_less, slot_with_version, slot_if_used, slot_with_value};
 ghost use Rattle.cal_storage.specs.Initializer.{MayInitialize};
 ghost use Rattle.cal_storage.specs.SlotLends.{LendsValue};
 ghost use Rattle.cal_storage.specs.Refusals.{entry_refusal, finished_version};
@@ -43,7 +43,7 @@ pub enum Slot<T> {
 impl<T> Slot<T> {
     /// The entry that is there.
     pub(crate) fn entry(&self) -> Option<&Entry<T>>
-        ensures { option_copied result ≡ kept self.now }
+        ensures { option_copied result ≡ entry_in self.now }
     {
         match self {
             Slot::Ended => None,
@@ -53,8 +53,8 @@ impl<T> Slot<T> {
 
     /// The value of the entry.
     pub(crate) fn value(&self) -> &T
-        requires { IsSome (kept self.now) }
-        ensures { Some result.now ≡ option_map (λ entry. entry.value) (kept self.now) }
+        requires { IsSome (entry_in self.now) }
+        ensures { Some result.now ≡ option_map (λ entry. entry.value) (entry_in self.now) }
     {
         match self {
             Slot::Ended => unreachable!(),
@@ -64,9 +64,9 @@ impl<T> Slot<T> {
 
     /// The value of the entry, to be written.
     pub(crate) fn value_mut(&mut self) -> &mut T
-        requires { IsSome (kept self.old) }
+        requires { IsSome (entry_in self.old) }
         ensures* writes_back { sem 𝓛 (LendsValue T.row self.entry result) }
-        ensures value { Some result.now ≡ option_map (λ entry. entry.value) (kept self.old) }
+        ensures value { Some result.now ≡ option_map (λ entry. entry.value) (entry_in self.old) }
     {
         match self {
             Slot::Ended => unreachable!(),
@@ -76,8 +76,8 @@ impl<T> Slot<T> {
 
     /// Whether an opening that checks the version may go on.
     pub(crate) fn check_version(&self) -> Result<(), DynamicStorageOpenError>
-        requires { IsSome (kept self.now) }
-        ensures { result_err result ≡ entry_refusal true (kept self.now) }
+        requires { IsSome (entry_in self.now) }
+        ensures { result_err result ≡ entry_refusal true (entry_in self.now) }
     {
         match self {
             Slot::Ended => unreachable!(),
@@ -96,8 +96,8 @@ impl<T> Slot<T> {
         room: usize,
         initializer: F,
     ) -> bool
-        requires there { IsSome (kept self.old) }
-        requires callable { IfSome (kept self.old) (λ entry. MayInitialize F.FnMut initializer entry.value room) }
+        requires there { IsSome (entry_in self.old) }
+        requires callable { IfSome (entry_in self.old) (λ entry. MayInitialize F.FnMut initializer entry.value room) }
         requires room { room ≤ 2 ^ 56 }
         ensures { Finishes F.FnMut initializer room self.old result self.new }
     {
@@ -115,7 +115,7 @@ impl<T> Slot<T> {
 
     /// One holder more.
     pub(crate) fn hold(&mut self)
-        ensures { self.new ≡ held self.old }
+        ensures { self.new ≡ slot_with_holder self.old }
     {
         if let Slot::Kept(entry) = self {
             entry.holders = entry.holders.saturating_add(1);
@@ -124,7 +124,7 @@ impl<T> Slot<T> {
 
     /// One holder less.
     pub(crate) fn let_go(&mut self)
-        ensures { self.new ≡ let_go self.old }
+        ensures { self.new ≡ slot_with_holder_less self.old }
     {
         if let Slot::Kept(entry) = self {
             if entry.holders != usize::MAX {
@@ -135,7 +135,7 @@ impl<T> Slot<T> {
 
     /// Another version.
     pub(crate) fn set_version(&mut self, version: u64)
-        ensures { self.new ≡ versioned version self.old }
+        ensures { self.new ≡ slot_with_version version self.old }
     {
         if let Slot::Kept(entry) = self {
             entry.version = version;
@@ -146,7 +146,7 @@ impl<T> Slot<T> {
 impl<T: Drop> Slot<T> {
     /// Ends the entry where neither a holder nor a name is left.
     pub(crate) fn end_if_left(&mut self, has_name: bool)
-        ensures { self.new ≡ left_of has_name self.old }
+        ensures { self.new ≡ slot_if_used has_name self.old }
     {
         if let Slot::Kept(entry) = self {
             if !has_name && entry.holders == 0 {

@@ -3,7 +3,7 @@
 
 ghost use Rattle.std.specs.Prelude.{◌≡◌, ◌-◌, ◌^◌, ◌++◌, [], ◌∷◌, Some, None};
 ghost use Rattle.cal_storage.specs.Changes.{opens, closes, withdraws};
-ghost use Rattle.cal_storage.specs.Contents.{opened, closed, entry_of, id_at};
+ghost use Rattle.cal_storage.specs.Contents.{after_opening, after_close, entry_of, id_at};
 ghost use Rattle.cal_storage.specs.Examples.{some_path, owner, guest, number, after_run, made, made_anew, held_by_two, closed_by_guests, begun, begun_and_made_anew, full};
 
 /// An owner whose name was removed and made anew by another closes: its own entry has ended, and the other's name and entry
@@ -39,8 +39,8 @@ pub fn an_entry_stays_under_its_name()
 
 /// A count of holders that has reached the greatest number neither rises at an opening nor falls at a close.
 pub fn a_full_count_of_holders_stays()
-    ensures opened { entry_of (opened full 0) 0 ≡ Some (number 444 (2 ^ 64 - 1)) }
-    ensures closed { entry_of (closed full guest) 0 ≡ Some (number 444 (2 ^ 64 - 1)) }
+    ensures opened { entry_of (after_opening full 0) 0 ≡ Some (number 444 (2 ^ 64 - 1)) }
+    ensures closed { entry_of (after_close full guest) 0 ≡ Some (number 444 (2 ^ 64 - 1)) }
 {}
 
 /// A value that is refused at the end of its making takes its entry and its name with it.

@@ -3,7 +3,7 @@
 
 ghost use Rattle.std.specs.Prelude.{◌≡◌, ℕ, ◌<◌, List, [], Some};
 ghost use Rattle.cal_storage.specs.Changes.{Change, after, after_all, IsAllowed, IsRun, Spares};
-ghost use Rattle.cal_storage.specs.Contents.{Contents, Handle, Has, entry_of, nothing_registered, created, opened, removed, closed, finished, withdrawn, with_value, version_set};
+ghost use Rattle.cal_storage.specs.Contents.{Contents, Handle, Has, entry_of, nothing_registered, after_creation, after_opening, after_removal, after_close, after_finish, after_withdrawal, with_value, with_version};
 ghost use Rattle.cal_storage.specs.ContentsLaws.{IsLater, MakesEntry, ChangesEntry, ChangesNamedEntry, TakesName, LetsGo, Withdraws, one_holder_more};
 ghost use Rattle.cal_storage.specs.OpenHandles.{ServesHandles, IsRunOfHandles, open_on, open_after_all};
 ghost use Rattle.cal_storage.specs.Soundness.{IsSound};
@@ -13,41 +13,41 @@ ghost use Rattle.cal_storage.specs.declared.entry.Entry.{Entry};
 /// other path and id is left as it was.
 pub fn a_creation_makes_an_entry<T>()
     ensures { (old : Contents T) (path : List ℕ) (value : T) (version : ℕ) →
-        MakesEntry old (created old path value version) path value version }
+        MakesEntry old (after_creation old path value version) path value version }
 {}
 
 /// An opening gives an entry one holder more, and changes nothing else.
 pub fn an_opening_adds_a_holder<T>()
-    ensures { (old : Contents T) (id : ℕ) → ChangesEntry old (opened old id) id one_holder_more }
+    ensures { (old : Contents T) (id : ℕ) → ChangesEntry old (after_opening old id) id one_holder_more }
 {}
 
 /// To finish an entry, to write its value and to set its version each changes that alone, in this entry alone: the names
 /// stay, and so do the holders.
 pub fn an_entry_changes_alone<T>()
     ensures finish { (old : Contents T) (id : ℕ) (value : T) (version : ℕ) →
-        ChangesEntry old (finished old id value version) id (λ entry. record entry { value = value; version = version }) }
+        ChangesEntry old (after_finish old id value version) id (λ entry. record entry { value = value; version = version }) }
     ensures value { (old : Contents T) (id : ℕ) (value : T) →
         ChangesEntry old (with_value old id value) id (λ entry. record entry { value = value }) }
     ensures version { (old : Contents T) (path : List ℕ) (version : ℕ) →
-        ChangesNamedEntry old (version_set old path version) path (λ entry. record entry { version = version }) }
+        ChangesNamedEntry old (with_version old path version) path (λ entry. record entry { version = version }) }
 {}
 
 /// A removal takes the name. The entry for which it stood stays, unchanged, where somebody holds it, and has ended else.
 pub fn a_removal_takes_the_name<T>()
-    ensures { (old : Contents T) (path : List ℕ) → IsSound old → TakesName old (removed old path) path }
+    ensures { (old : Contents T) (path : List ℕ) → IsSound old → TakesName old (after_removal old path) path }
 {}
 
 /// A close takes one holder, and the name only where the handle is the owner and the name still stands for its entry. The
 /// entry stays where a holder or its name is left, and has ended else. Every other path and id is left as it was.
 pub fn a_close_lets_go<T>()
     ensures { (old : Contents T) (handle : Handle) (entry : Entry T) → IsSound old →
-        entry_of old handle.id ≡ Some entry → LetsGo old (closed old handle) handle entry }
+        entry_of old handle.id ≡ Some entry → LetsGo old (after_close old handle) handle entry }
 {}
 
 /// Where the value of an entry is refused at the end of its making, the entry has ended, whoever holds it, and its name is gone
 /// where it still stood for the entry.
 pub fn a_withdrawal_ends_the_entry<T>()
-    ensures { (old : Contents T) (handle : Handle) → IsSound old → Withdraws old (withdrawn old handle) handle }
+    ensures { (old : Contents T) (handle : Handle) → IsSound old → Withdraws old (after_withdrawal old handle) handle }
 {}
 
 /// A new registry is sound, and stays so over every run: each name stands for an entry that was made under it, and each entry

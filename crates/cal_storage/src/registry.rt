@@ -1,7 +1,7 @@
 //! The registry of all stored values of one type: names, which are paths that stand for entries, and the entries by their
 //! ids. An id is a place in a vector that only grows, so it is never used again. The layer above may rely on each call
 //! changing the name and the entry that it is about, and no other, and on an entry staying while somebody holds it.
-ghost use Rattle.std.specs.Prelude.{◌≡◌, ◌<◌, ◌≤◌, ◌^◌, ℕ, Bool, List, not, Some, None, length, vec_len, vec_capacity, is_some, IsSomeAnd, IfSome, IsSome, IfOk, IfErr, OnOk, OnErr, IsErrOf, ◌↔◌, ◌⊎◌, slice_index_or, if◌then◌else◌};
+ghost use Rattle.std.specs.Prelude.{◌≡◌, ◌<◌, ◌≤◌, ◌^◌, ℕ, Bool, List, not, Some, None, length, vec_len, vec_capacity, is_some, IsSomeAnd, IfSome, IsSome, IsOk, IfOk, IfErr, OnOk, OnErr, IsErrOf, ◌↔◌, ◌⊎◌, slice_index_or, if◌then◌else◌};
 ghost use Rattle.std.specs.Borrow.{sem};
 ghost use Rattle.std.specs.Option.{option_copied};
 ghost use Rattle.std.specs.Result.{result_err};
@@ -11,24 +11,25 @@ ghost use Rattle.std.specs.Ordering.{nat_cmp};
 ghost use Rattle.std.specs.BTreeMap.{insert_entry};
 ghost use Rattle.std.specs.Cmp.Lexicographic.{slice_cmp};
 ghost use Rattle.cal_names.specs.FilePath.{IsFilePath};
-ghost use Rattle.cal_names.specs.ConceptSettings.{extracted_name_at};
-ghost use Rattle.cal_storage.specs.Contents.{is_id, is_path, Has, nothing_registered, id_at, entry_at, entry_of, value_of, created, opened, closed, version_set};
+ghost use Rattle.cal_names.specs.ConceptSettings.{file_name_for, file_path_for, extracted_name_at};
+ghost use Rattle.cal_storage.specs.Contents.{is_id, is_path, Has, nothing_registered, id_at, entry_at, entry_of, value_of, value_at, after_creation, after_opening, after_close, with_version};
+ghost use Rattle.cal_storage.specs.Holding.{KeepsHandles};
 ghost use Rattle.cal_storage.specs.Managing.{goes_with};
 ghost use Rattle.cal_storage.specs.Soundness.{IsSound};
 ghost use Rattle.cal_storage.specs.Initializer.{MayInitialize, Initializes};
-ghost use Rattle.cal_storage.specs.Refusals.{entry_refusal, name_removed};
+ghost use Rattle.cal_storage.specs.Refusals.{entry_refusal, has_name, after_name_removal};
 ghost use Rattle.cal_storage.specs.RegistryCalls.{Creates, CreateFails, FinishesEntry};
 ghost use Rattle.cal_storage.specs.RegistryLends.{LendsValue};
 ghost use Rattle.cal_storage.specs.SlotsLend.{LendsSlot};
 ghost use Rattle.cal_storage.specs.declared.entry.Slot.TheVariants.{Ended};
-ghost use Rattle.cal_storage.specs.declared.dynamic_storage.DynamicStorageCreateError.TheVariants.{AlreadyExists, NoMemory};
+ghost use Rattle.cal_storage.specs.declared.dynamic_storage.errors.DynamicStorageCreateError.TheVariants.{AlreadyExists, NoMemory};
 
 use crate::dynamic_storage::{DynamicStorageCreateError, DynamicStorageOpenError};
 use crate::entry::{Entry, FINISHED_VERSION, Slot};
 use crate::handle::Handle;
 use crate::initialize::initialize;
 use cal_alloc::BumpAllocator;
-use cal_names::{FileName, FilePath, NamedConceptConfiguration};
+use cal_names::{FileName, FilePath, NamedConceptConfiguration, PathTooLong};
 use std::alloc::{AllocError, Global};
 use std::collections::BTreeMap;
 use std::marker::Model;
@@ -36,8 +37,11 @@ use std::marker::Model;
 /// A finite map from paths to ids, and from ids to entries.
 #[derive(Debug, Drop)]
 pub struct Registry<T> {
+    /// What all memory is taken from.
     alloc: Global,
+    /// The ids for which the paths stand, each below the number of slots.
     names: BTreeMap<FilePath, usize>,
+    /// A slot for each id that was ever made, at the id.
     slots: Vec<Slot<T>>,
 }
 
@@ -83,7 +87,7 @@ impl<T> Registry<T> {
     /// are half made, and of such that another version of this crate made.
     pub fn set_version(&mut self, path: &FilePath, version: u64) -> bool
         ensures found { result ≡ is_some (id_at self.old path.now) }
-        ensures set { self.new ≡ version_set self.old path.now version }
+        ensures set { self.new ≡ with_version self.old path.now version }
     {
         match self.id_at(path) {
             None => false,
@@ -92,6 +96,21 @@ impl<T> Registry<T> {
                 true
             }
         }
+    }
+
+    /// The path of a name.
+    pub(crate) fn path_for<C: NamedConceptConfiguration>(
+        &self,
+        name: &FileName,
+        config: &C,
+    ) -> Result<FilePath, PathTooLong>
+        ensures fits { IsOk result ↔ (length (file_name_for (C.settings config.now) name.now) ≤ 255) }
+        ensures rule { IfOk result IsFilePath }
+        ensures path { IfOk result (λ path. path ≡ file_path_for (C.settings config.now) name.now) }
+        ensures sound { IsSound self.now }
+    {
+        let _names = &self.names;
+        config.path_for(name)
     }
 
     /// Whether a name is there; not where its path would be too long.
@@ -119,6 +138,25 @@ impl<T> Registry<T> {
             .keys()
             .filter_map(|path| config.extract_name_from_path(path))
             .collect(alloc)
+    }
+
+    /// The value for which a path stands, where it can be opened.
+    pub(crate) fn peek(
+        &self,
+        path: &FilePath,
+        checks_version: bool,
+    ) -> Result<&T, DynamicStorageOpenError>
+        ensures refused { result_err result ≡ entry_refusal checks_version (entry_at self.now path.now) }
+        ensures value { IfOk result (λ value. Some value.now ≡ value_at self.now path.now) }
+    {
+        let id = self
+            .id_at(path)
+            .ok_or(DynamicStorageOpenError::DoesNotExist)?;
+        let slot = &self.slots[id];
+        if checks_version {
+            slot.check_version()?;
+        }
+        Ok(slot.value())
     }
 
     /// The value of an entry.
@@ -155,7 +193,7 @@ impl<T> Registry<T> {
     ) -> Result<usize, DynamicStorageOpenError>
         ensures refused { result_err result ≡ entry_refusal checks_version (entry_at self.old path.now) }
         ensures id { IfOk result (λ id. id_at self.old path.now ≡ Some id) }
-        ensures opened { IfOk result (λ id. self.new ≡ opened self.old id) }
+        ensures opened { IfOk result (λ id. self.new ≡ after_opening self.old id) }
         ensures sound { IsSound self.old }
         ensures unchanged { OnErr result (self.new ≡ self.old) }
     {
@@ -182,7 +220,7 @@ impl<T: Drop> Registry<T> {
         initializer: F,
     ) -> Result<usize, DynamicStorageCreateError>
         requires path { IsFilePath path.now }
-        requires callable { MayInitialize F.FnMut initializer initial_value room }
+        requires callable { id_at self.old path.now ≡ None → MayInitialize F.FnMut initializer initial_value room }
         requires room { room ≤ 2 ^ 56 }
         ensures exists { IsErrOf result AlreadyExists ↔ IsSome (id_at self.old path.now) }
         ensures error { IfErr result (CreateFails F.FnMut (Some AlreadyExists) initializer initial_value room) }
@@ -216,7 +254,7 @@ impl<T: Drop> Registry<T> {
         ensures exists { IsErrOf result AlreadyExists ↔ IsSome (id_at self.old path.now) }
         ensures error { IfErr result (λ error. (error ≡ AlreadyExists) ⊎ (error ≡ NoMemory)) }
         ensures id { IfOk result (λ id. id ≡ length self.old.slots) }
-        ensures begun { OnOk result (self.new ≡ created self.old path.now value 0) }
+        ensures begun { OnOk result (self.new ≡ after_creation self.old path.now value 0) }
         ensures sound { IsSound self.old }
         ensures unchanged { OnErr result (self.new ≡ self.old) }
     {
@@ -263,9 +301,12 @@ impl<T: Drop> Registry<T> {
         config: &C,
     ) -> bool
         ensures found { result ≡ list_any (goes_with (C.settings config.now) name.now) (keys_of self.old.names) }
+        ensures named { result ≡ has_name (C.settings config.now) name.now self.old }
         ensures gone { let goes : List ℕ → Bool = goes_with (C.settings config.now) name.now in
             keys_of self.new.names ≡ filter (λ path. not (goes path)) (keys_of self.old.names) }
-        ensures removed { self.new ≡ name_removed self.old (C.settings config.now) name.now }
+        ensures removed { self.new ≡ after_name_removal (C.settings config.now) name.now self.old }
+        ensures keeps { KeepsHandles self.old self.new }
+        ensures sound { IsSound self.old }
     {
         let names = &mut self.names;
         let Ok(path) = config.path_for(name) else {
@@ -284,7 +325,7 @@ impl<T: Drop> Registry<T> {
     /// stays while a holder or a name is left.
     pub(crate) fn close(&mut self, handle: &Handle)
         requires { Has self.old handle.now }
-        ensures closed { self.new ≡ closed self.old handle.now }
+        ensures closed { self.new ≡ after_close self.old handle.now }
         ensures sound { IsSound self.old }
     {
         let is_named = is_id(self.id_at(&handle.path), handle.id);
@@ -333,6 +374,7 @@ fn enter_name<T>(
     ensures exists { IsErrOf result AlreadyExists ↔ IsSome (lookup (is_path path.now) names.old.entries) }
     ensures error { IfErr result (λ error. (error ≡ AlreadyExists) ⊎ (error ≡ NoMemory)) }
     ensures id { IfOk result (λ id. id ≡ length slots.old.items) }
+    ensures free { OnOk result (lookup (is_path path.now) names.old.entries ≡ None) }
     ensures entered { OnOk result (names.new.entries
         ≡ insert_entry (slice_cmp nat_cmp) names.old.entries path.now (length slots.old.items)) }
     ensures room { OnOk result (vec_len slots.new < vec_capacity slots.new) }

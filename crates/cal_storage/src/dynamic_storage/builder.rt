@@ -1,12 +1,13 @@
 //! The builder of storages of both kinds.
-ghost use Rattle.std.specs.Prelude.{◌≡◌, true};
+ghost use Rattle.std.specs.Prelude.{◌≡◌, refl};
+ghost use Rattle.cal_storage.specs.Plan.{default_options};
 
 use crate::access_mode::AccessMode;
 use crate::dynamic_storage::configuration::Configuration;
 use crate::dynamic_storage::storage::{Kind, Storage};
 use crate::dynamic_storage::{
     DynamicStorageBuilder, DynamicStorageCreateError, DynamicStorageOpenError,
-    DynamicStorageOpenOrCreateError,
+    DynamicStorageOpenOrCreateError, StorageOptions,
 };
 use crate::handle::Handle;
 use crate::registry::Registry;
@@ -19,47 +20,46 @@ use std::marker::{Model, PhantomData};
 #[derive_where(Debug)]
 #[derive(Drop)]
 pub struct Builder<T, K> {
+    /// The name of the storage.
     pub(crate) name: FileName,
+    /// What makes the path of the name.
     pub(crate) config: Configuration<T>,
-    pub(crate) has_ownership: bool,
-    pub(crate) supplementary_size: usize,
-    call_drop_on_destruction: bool,
-    timeout: usize,
+    /// Whether a new storage owns its name, and the room of its initializer, at most 2^56 bytes.
+    pub(crate) options: StorageOptions,
     of: PhantomData<K>,
 }
 
 impl<T, K> Model for Builder<T, K> {
     ghost use Rattle.std.specs.Prelude.{◌≤◌, ◌^◌, Some};
-    ghost use Rattle.cal_names.specs.ConceptSettings.{settings_from};
-    ghost use Rattle.cal_storage.specs.Plan.{Plan};
+    ghost use Rattle.cal_names.specs.ConceptSettings.{settings_of};
+    ghost use Rattle.cal_storage.specs.Plan.{StoragePlan};
 
-    ghost Value = { Plan };
+    ghost Value = { StoragePlan };
 
     ghost view = { λ b. record {
       name = b.name;
-      settings = settings_from b.config.prefix (Some b.config.type_name) b.config.suffix b.config.path_hint;
-      is_owner = b.has_ownership;
-      room = b.supplementary_size;
+      settings = settings_of b.config.parts (Some b.config.type_name);
+      options = b.options;
     } };
 
-    ghost invariant = { λ b. b.supplementary_size ≤ 2 ^ 56 };
+    ghost invariant = { λ b. b.options.room ≤ 2 ^ 56 };
 }
 
 impl<T: NamedType + Debug + Drop, K: Kind> NamedConceptBuilder<Storage<T, K>> for Builder<T, K> {
-    ghost concept_name = { λ b. b.name };
+    type Options = StorageOptions;
 
-    ghost concept_settings = { λ b. b.settings };
+    ghost plan = { λ b. b };
 
-    ghost IsDefault = { λ b. (b.is_owner ≡ true) × (b.room ≡ 0) };
+    ghost default_options = { default_options };
 
     fn new(name: &FileName) -> Self {
         Builder {
             name: *name,
             config: Configuration::default(),
-            has_ownership: true,
-            supplementary_size: 0,
-            call_drop_on_destruction: true,
-            timeout: 0,
+            options: StorageOptions {
+                is_owner: true,
+                room: 0,
+            },
             of: PhantomData,
         }
     }
@@ -74,36 +74,28 @@ impl<T: NamedType + Debug + Drop, K: Kind> NamedConceptBuilder<Storage<T, K>> fo
 
 impl<T: NamedType + Debug + Drop, K: Kind> DynamicStorageBuilder<T, Storage<T, K>>
     for Builder<T, K> {
-    ghost is_owner = { λ b. b.is_owner };
-
-    ghost room = { λ b. b.room };
-
-    fn call_drop_on_destruction(self, value: bool) -> Self {
-        Builder {
-            call_drop_on_destruction: value,
-            ..self
-        }
+    fn call_drop_on_destruction(self, _value: bool) -> Self {
+        self
     }
 
     fn has_ownership(self, value: bool) -> Self {
-        Builder {
-            has_ownership: value,
-            ..self
-        }
+        let options = StorageOptions {
+            is_owner: value,
+            room: self.options.room,
+        };
+        Builder { options, ..self }
     }
 
     fn supplementary_size(self, value: usize) -> Self {
-        Builder {
-            supplementary_size: value,
-            ..self
-        }
+        let options = StorageOptions {
+            is_owner: self.options.is_owner,
+            room: value,
+        };
+        Builder { options, ..self }
     }
 
-    fn timeout(self, turns: usize) -> Self {
-        Builder {
-            timeout: turns,
-            ..self
-        }
+    fn timeout(self, _turns: usize) -> Self {
+        self
     }
 
     fn create<F: FnMut(&mut T, &mut BumpAllocator) -> bool + Drop>(
@@ -112,16 +104,16 @@ impl<T: NamedType + Debug + Drop, K: Kind> DynamicStorageBuilder<T, Storage<T, K
         initial_value: T,
         initializer: F,
     ) -> Result<Storage<T, K>, DynamicStorageCreateError> {
-        let Ok(path) = self.config.path_for(&self.name) else {
+        let Ok(path) = reg.path_for(&self.name, &self.config) else {
             return Err(DynamicStorageCreateError::PathTooLong);
         };
-        let id = reg.create(&path, initial_value, self.supplementary_size, initializer)?;
+        let id = reg.create(&path, initial_value, self.options.room, initializer)?;
         Ok(Storage {
             name: self.name,
             handle: Handle {
                 id,
                 path,
-                is_owner: self.has_ownership,
+                is_owner: self.options.is_owner,
             },
             of: PhantomData,
         })
@@ -132,7 +124,7 @@ impl<T: NamedType + Debug + Drop, K: Kind> DynamicStorageBuilder<T, Storage<T, K
         reg: &mut Registry<T>,
         _access_mode: AccessMode,
     ) -> Result<Storage<T, K>, DynamicStorageOpenError> {
-        let Ok(path) = self.config.path_for(&self.name) else {
+        let Ok(path) = reg.path_for(&self.name, &self.config) else {
             return Err(DynamicStorageOpenError::PathTooLong);
         };
         let id = reg.open(&path, K::checks_version())?;
@@ -147,13 +139,20 @@ impl<T: NamedType + Debug + Drop, K: Kind> DynamicStorageBuilder<T, Storage<T, K
         })
     }
 
+    fn peek<'r>(&self, reg: &'r Registry<T>) -> Result<&'r T, DynamicStorageOpenError> {
+        let Ok(path) = reg.path_for(&self.name, &self.config) else {
+            return Err(DynamicStorageOpenError::PathTooLong);
+        };
+        reg.peek(&path, K::checks_version())
+    }
+
     fn open_or_create<F: FnMut(&mut T, &mut BumpAllocator) -> bool + Drop>(
         self,
         reg: &mut Registry<T>,
         initial_value: T,
         initializer: F,
     ) -> Result<Storage<T, K>, DynamicStorageOpenOrCreateError> {
-        let Ok(path) = self.config.path_for(&self.name) else {
+        let Ok(path) = reg.path_for(&self.name, &self.config) else {
             return Err(DynamicStorageOpenOrCreateError::DynamicStorageOpenError(
                 DynamicStorageOpenError::PathTooLong,
             ));
@@ -172,5 +171,5 @@ impl<T: NamedType + Debug + Drop, K: Kind> DynamicStorageBuilder<T, Storage<T, K
         }
     }
 
-    ghost defaults = { λ builder default. default };
+    ghost defaults = { refl };
 }

@@ -1,31 +1,35 @@
-//! The configuration of a storage: what stands before and behind a name in the path of its file, and the stored type's name.
-ghost use Rattle.std.specs.Prelude.{◌≡◌, Some, codes, refl};
-ghost use Rattle.cal_names.specs.ConceptSettings.{settings_from};
+//! The configuration of a storage: what stands around a name in the path of its file, and the stored type's name. Ported
+//! from `dynamic_storage/dynamic_storage_configuration.rs` of iceoryx2-cal 0.9.3.
+ghost use Rattle.std.specs.Prelude.{◌≡◌, Some, refl};
+ghost use Rattle.cal_names.specs.ConceptSettings.{settings_of};
+ghost use Rattle.cal_storage.specs.Configuration.{default_parts};
 
 use cal_names::{
-    DynamicStorageConfiguration, FileName, NamedConceptConfiguration, NamedType, Path, TypeName,
+    DynamicStorageConfiguration, FileName, NamedConceptConfiguration, NamedType, Path, PathParts,
+    TypeName,
 };
 use std::marker::PhantomData;
 
 /// The configuration of a storage of a type.
 #[derive_where(Clone, Copy, Debug, PartialEq, Eq)]
 pub struct Configuration<T> {
-    prefix: FileName,
-    suffix: FileName,
-    path_hint: Path,
+    /// What stands around a name in its path.
+    parts: PathParts,
+    /// The name of the stored type, whose hash stands between the prefix and the name.
     type_name: TypeName,
     of: PhantomData<T>,
 }
 
 impl<T: NamedType> Default for Configuration<T> {
-    ghost is_default = { λ c. (c.prefix ≡ codes "iox2_") × (c.suffix ≡ codes ".dyn")
-        × (c.path_hint ≡ codes "/tmp") × (c.type_name ≡ T.name) };
+    ghost is_default = { λ c. (c.parts ≡ default_parts) × (c.type_name ≡ T.name) };
 
     fn default() -> Self {
         Configuration {
-            prefix: FileName::new(b"iox2_").unwrap(),
-            suffix: FileName::new(b".dyn").unwrap(),
-            path_hint: Path::new(b"/tmp").unwrap(),
+            parts: PathParts {
+                prefix: FileName::new(b"iox2_").unwrap(),
+                suffix: FileName::new(b".dyn").unwrap(),
+                path_hint: Path::new(b"/tmp").unwrap(),
+            },
             type_name: T::type_name(),
             of: PhantomData,
         }
@@ -33,49 +37,23 @@ impl<T: NamedType> Default for Configuration<T> {
 }
 
 impl<T: NamedType> NamedConceptConfiguration for Configuration<T> {
-    ghost settings = { λ c. settings_from c.prefix (Some c.type_name) c.suffix c.path_hint };
+    ghost settings = { λ c. settings_of c.parts (Some c.type_name) };
 
-    ghost initial = { settings_from (codes "iox2_") (Some T.name) (codes ".dyn") (codes "/tmp") };
+    ghost initial = { settings_of default_parts (Some T.name) };
 
-    fn prefix(self, value: &FileName) -> Self {
-        Configuration {
-            prefix: *value,
-            ..self
-        }
+    fn parts(&self) -> &PathParts {
+        &self.parts
     }
 
-    fn get_prefix(&self) -> &FileName {
-        &self.prefix
-    }
-
-    fn suffix(self, value: &FileName) -> Self {
-        Configuration {
-            suffix: *value,
-            ..self
-        }
-    }
-
-    fn path_hint(self, value: &Path) -> Self {
-        Configuration {
-            path_hint: *value,
-            ..self
-        }
-    }
-
-    fn get_suffix(&self) -> &FileName {
-        &self.suffix
-    }
-
-    fn get_path_hint(&self) -> &Path {
-        &self.path_hint
+    fn with_parts(self, parts: PathParts) -> Self {
+        Configuration { parts, ..self }
     }
 
     fn get_type_name(&self) -> Option<TypeName> {
         Some(self.type_name)
     }
 
-    ghost starts = { λ c default i.
-        settings_from (default.0 i) (Some (default.3 i)) (default.1 i) (default.2 i) };
+    ghost starts = { λ c default i. settings_of (default.0 i) (Some (default.1 i)) };
 
     ghost defaults = { (refl, refl) };
 }

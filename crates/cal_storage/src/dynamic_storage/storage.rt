@@ -3,8 +3,9 @@ ghost use Rattle.std.specs.Prelude.{◌≡◌, Bool, false, refl};
 ghost use Rattle.std.specs.Map.{keys_of};
 ghost use Rattle.cal_names.specs.NamedConceptMgmt.{is_name-same};
 ghost use Rattle.cal_names.specs.ConceptSettings.{extracted_name_at};
+ghost use Rattle.cal_storage.specs.Holding.{KeepsHandles};
 ghost use Rattle.cal_storage.specs.Managing.{goes_with};
-ghost use Rattle.cal_storage.specs.Refusals.{name_removed};
+ghost use Rattle.cal_storage.specs.Refusals.{after_name_removal};
 
 use crate::dynamic_storage::DynamicStorage;
 use crate::dynamic_storage::builder::Builder;
@@ -27,14 +28,16 @@ pub trait Kind: Debug {
 
     /// Whether an opening looks at the version of an entry.
     fn checks_version() -> bool
-        ensures { result ≡ checks_version };
+        ensures value { result ≡ checks_version };
 }
 
 /// A storage of a type, of one kind.
 #[derive_where(Debug)]
 #[derive(Drop)]
 pub struct Storage<T, K> {
+    /// The name of the storage.
     pub(crate) name: FileName,
+    /// The entry that the storage holds.
     pub(crate) handle: Handle,
     pub(crate) of: PhantomData<(T, K)>,
 }
@@ -58,9 +61,11 @@ impl<T: NamedType + Debug + Drop, K: Kind> NamedConceptMgmt for Storage<T, K> {
 
     ghost goes_with = { goes_with };
 
-    ghost removed = { λ settings name reg. name_removed reg settings name };
+    ghost removed = { after_name_removal };
 
     ghost lists_first = { false };
+
+    ghost KeepsOpen = { KeepsHandles };
 
     fn remove_cfg(
         _alloc: Global,
@@ -130,15 +135,23 @@ impl<T: NamedType + Debug + Drop, K: Kind> DynamicStorage<T> for Storage<T, K> {
         reg.close(&self.handle);
     }
 
-    ghost paths_are_names = { λ reg. refl };
+    fn remove_name(reg: &mut Registry<T>, name: &FileName, cfg: &Configuration<T>) -> bool {
+        reg.remove(name, cfg)
+    }
 
-    ghost shows = { λ settings path. refl };
+    ghost paths_are_names = { refl };
 
-    ghost goes = { λ settings name path. refl };
+    ghost shows = { refl };
 
-    ghost removes = { λ settings name reg. refl };
+    ghost goes = { refl };
+
+    ghost removes = { refl };
+
+    ghost keeps_open = { λ old new keeps. keeps };
 
     ghost lists_nothing_first = { refl };
 
     ghost suffix = { refl };
+
+    ghost typed = { refl };
 }

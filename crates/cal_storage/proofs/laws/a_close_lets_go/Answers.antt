@@ -1,6 +1,6 @@
 -- The lemma on a handle that closes.
-use Rattle.cal_storage.proofs.EntryLaws.{closed-LetsGo}
+use Rattle.cal_storage.specs.EntryLemmas.{after_close-LetsGo}
 use Rattle.cal_storage.proofs.laws.a_close_lets_go.Goals as goal
 
 pub returns : goal.returns
-returns g c = λ old handle entry sound is. closed-LetsGo old sound handle entry is
+returns g c = λ old handle entry sound is. after_close-LetsGo old sound handle entry is

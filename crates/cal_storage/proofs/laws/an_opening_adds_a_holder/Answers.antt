@@ -1,6 +1,6 @@
 -- The lemma on a holder more.
-use Rattle.cal_storage.proofs.EntryLaws.{opened-ChangesEntry}
+use Rattle.cal_storage.specs.EntryLemmas.{after_opening-ChangesEntry}
 use Rattle.cal_storage.proofs.laws.an_opening_adds_a_holder.Goals as goal
 
 pub returns : goal.returns
-returns g c = opened-ChangesEntry
+returns g c = after_opening-ChangesEntry

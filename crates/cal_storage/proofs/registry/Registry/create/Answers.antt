@@ -1,4 +1,4 @@
-use Rattle.cal_storage.proofs.Keeping.{created-IsSound, remove-insert}
+use Rattle.cal_storage.specs.SoundnessLemmas.{after_creation-IsSound, remove-insert}
 use Rattle.cal_storage.proofs.Entering.{free_of_entered}
 use Rattle.cal_storage.proofs.registry.Registry.create.Goals as goal
 
@@ -17,5 +17,5 @@ returns-then-not-initialize-clause-unchanged g c =
 pub invariant_of-self-2 : goal.invariant_of-self-2
 invariant_of-self-2 g c =
     rw (c.in_ok-id.ensures.entered, c.push_reserved.ensures.items, c.enter_name.ensures.slots)
-    (created-IsSound _ c.self.invariant c.args.path.now c.initialize.new.value 9003 c.requires.path
+    (after_creation-IsSound _ c.self.invariant c.args.path.now c.initialize.new.value 9003 c.requires.path
     (free_of_entered _ _ c.in_ok-id.id c.enter_name.ensures.exists c.in_ok-id.was))

@@ -1,4 +1,4 @@
-use Rattle.cal_storage.proofs.Keeping.{with_value-IsSound}
+use Rattle.cal_storage.specs.SoundnessLemmas.{with_value-IsSound}
 use Rattle.cal_storage.proofs.registry.Registry.get_mut.Goals as goal
 
 pub invariant_of-self-lent : goal.invariant_of-self-lent

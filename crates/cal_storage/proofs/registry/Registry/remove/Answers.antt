@@ -1,5 +1,9 @@
-use Rattle.std.proofs.Common.{None, Some, ◌∙◌, sym, ap, refl, is_some}
-use Rattle.cal_storage.proofs.ChangeParts.{name_removed-is, removed_at}
+use Rattle.std.proofs.Common.{None, Some, ◌∙◌, sym, ap, refl, subst, is_some}
+use Rattle.cal_names.specs.ConceptSettings.{ConceptSettings}
+use Rattle.cal_storage.specs.HoldingLemmas.{KeepsHandles-is, KeepsHandles-after_name_removal}
+use Rattle.cal_storage.specs.Refusals.{after_name_removal}
+use Rattle.cal_storage.specs.Soundness.{IsSound}
+use Rattle.cal_storage.proofs.ChangeParts.{after_name_removal-is, removed_at}
 use Rattle.cal_storage.proofs.Naming.{found_at, found_nowhere, gone_at, gone_nowhere}
 use Rattle.cal_storage.proofs.Within.{named_within}
 use Rattle.cal_storage.proofs.registry.Registry.remove.Goals as goal
@@ -32,7 +36,7 @@ returns-in-None-clause-gone g c =
 pub returns-in-None-clause-removed : goal.returns-in-None-clause-removed
 returns-in-None-clause-removed g c =
     rw (← c.self.view_is, c.in-None.ensures.unchanged)
-    (name_removed-is _ (g.C.NamedConceptConfiguration.settings c.args.config.now) c.args.name.now c.in-Ok.path (c.in-Ok.ensures.fits.0 refl) c.in-Ok.ensures.path None (sym c.remove.ensures.value ∙ c.in-None.is))
+    (after_name_removal-is _ (g.C.NamedConceptConfiguration.settings c.args.config.now) c.args.name.now c.in-Ok.path (c.in-Ok.ensures.fits.0 refl) c.in-Ok.ensures.path None (sym c.remove.ensures.value ∙ c.in-None.is))
 
 pub returns-in-Some-clause-found : goal.returns-in-Some-clause-found
 returns-in-Some-clause-found g c =
@@ -46,4 +50,12 @@ returns-in-Some-clause-gone g c =
 pub returns-in-Some-clause-removed : goal.returns-in-Some-clause-removed
 returns-in-Some-clause-removed g c =
     rw (← c.self.view_is, c.remove.ensures.entries, c.end_if_left.ensures, c.slot_mut.ensures.value)
-    (name_removed-is _ (g.C.NamedConceptConfiguration.settings c.args.config.now) c.args.name.now c.in-Ok.path (c.in-Ok.ensures.fits.0 refl) c.in-Ok.ensures.path (Some c.in-Some.id) (sym c.remove.ensures.value ∙ c.in-Some.is))
+    (after_name_removal-is _ (g.C.NamedConceptConfiguration.settings c.args.config.now) c.args.name.now c.in-Ok.path (c.in-Ok.ensures.fits.0 refl) c.in-Ok.ensures.path (Some c.in-Some.id) (sym c.remove.ensures.value ∙ c.in-Some.is))
+
+pub returns-in-Some-clause-keeps : goal.returns-in-Some-clause-keeps
+returns-in-Some-clause-keeps g c =
+    let settings : ConceptSettings = g.C.NamedConceptConfiguration.settings c.args.config.now in
+    KeepsHandles-is c.args.self.now _ (after_name_removal settings c.args.name.now c.args.self.now)
+    (returns-in-Some-clause-removed g c)
+    (KeepsHandles-after_name_removal c.args.self.now (subst (IsSound {T = g.row.T.Denot}) c.self.view_is c.self.invariant)
+    settings c.args.name.now)

@@ -1,13 +1,14 @@
 use Rattle.std.proofs.Common.{◌≡◌, ◌≤◌, length, refl, sym, subst, ◌∙◌}
-use Rattle.cal_names.specs.ConceptSettings.{file_name_for, file_path_for}
-use Rattle.cal_storage.specs.Plan.{Plan}
+use Rattle.cal_names.specs.ConceptSettings.{file_name_for}
+use Rattle.cal_storage.specs.Plan.{StoragePlan, path_of}
 use Rattle.cal_storage.proofs.Refusing.{fails_free}
 use Rattle.cal_storage.proofs.dynamic_storage.builder.BuilderDynamicStorageBuilderStorage.open_or_create.Goals as goal
 
 pub returns-in-Err-clause-error : goal.returns-in-Err-clause-error
 returns-in-Err-clause-error g c =
-    fails_free g.F.FnMut c.args.reg.now c.args.self.settings c.args.self.name c.in-Ok.path
-    (subst (λ (plan : Plan). length (file_name_for plan.settings plan.name) ≤ 255) c.self.view_is (c.in-Ok.ensures.fits.0 refl))
-    (subst (λ (plan : Plan). c.in-Ok.path ≡ file_path_for plan.settings plan.name) c.self.view_is c.in-Ok.ensures.path)
+    fails_free g.F.FnMut c.args.reg.now c.args.self c.in-Ok.path
+    (subst (λ (plan : StoragePlan). length (file_name_for plan.settings plan.name) ≤ 255) c.self.view_is
+    (c.in-Ok.ensures.fits.0 refl))
+    (subst (λ (plan : StoragePlan). c.in-Ok.path ≡ path_of plan) c.self.view_is c.in-Ok.ensures.path)
     (sym c.contains.ensures ∙ c.if-not-contains.true)
-    c.args.initializer c.args.initial_value c.args.self.room c.in-Err.error c.in-Err.ensures.error
+    c.args.initializer c.args.initial_value c.args.self.options.room c.in-Err.error c.in-Err.ensures.error

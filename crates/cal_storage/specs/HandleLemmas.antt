@@ -5,24 +5,24 @@ use Rattle.std.proofs.lemmas.List.{get_or_past}
 use Rattle.cal_storage.specs.declared.entry.Entry.{Entry}
 use Rattle.cal_storage.specs.declared.entry.Slot.TheVariants.{Ended}
 use Rattle.cal_storage.specs.Changes.{Change, creates, opens, removes, closes, finishes, withdraws, sets_value, sets_version, after, after_all, IsAllowed, IsRun, IsHeld, IsShared, Spares}
-use Rattle.cal_storage.specs.Contents.{Contents, Handle, is_id, kept, one_less, id_at, entry_of, Has, created, withdrawn}
+use Rattle.cal_storage.specs.Contents.{Contents, Handle, is_id, entry_in, one_less, id_at, entry_of, Has, after_creation, after_withdrawal}
 use Rattle.cal_storage.specs.ContentsLaws.{IsLater, LeavesOthers, ChangesEntry, ChangesNamedEntry, TakesName, LetsGo, if_held}
 use Rattle.cal_storage.specs.Soundness.{IsSound}
-use Rattle.cal_storage.proofs.EntryLaws.{opened-ChangesEntry, with_value-ChangesEntry, finished-ChangesEntry, version_set-ChangesNamedEntry, created-LeavesOthers, removed-TakesName, closed-LetsGo, withdrawn-Withdraws}
-use Rattle.cal_storage.proofs.Keeping.{is_id-true, is_id-same, created-IsSound, opened-IsSound, removed-IsSound, closed-IsSound, finished-IsSound, withdrawn-IsSound, with_value-IsSound, version_set-IsSound}
+use Rattle.cal_storage.specs.EntryLemmas.{after_opening-ChangesEntry, with_value-ChangesEntry, after_finish-ChangesEntry, with_version-ChangesNamedEntry, after_creation-LeavesOthers, after_removal-TakesName, after_close-LetsGo, after_withdrawal-Withdraws}
+use Rattle.cal_storage.specs.SoundnessLemmas.{is_id-true, is_id-same, after_creation-IsSound, after_opening-IsSound, after_removal-IsSound, after_close-IsSound, after_finish-IsSound, after_withdrawal-IsSound, with_value-IsSound, with_version-IsSound}
 
 module _ {T : Type 0} where
   -- ---- soundness
 
   pub after-IsSound : (contents : Contents T) (change : Change T) → IsSound contents → IsAllowed contents change → IsSound (after contents change)
-  after-IsSound contents (creates path value version) sound allowed = created-IsSound contents sound path value version allowed.0 allowed.1
-  after-IsSound contents (opens id) sound allowed = opened-IsSound contents sound id
-  after-IsSound contents (removes path) sound allowed = removed-IsSound contents sound path
-  after-IsSound contents (closes handle) sound allowed = closed-IsSound contents sound handle allowed
-  after-IsSound contents (finishes id value version) sound allowed = finished-IsSound contents sound id value version
-  after-IsSound contents (withdraws handle) sound allowed = withdrawn-IsSound contents sound handle allowed
+  after-IsSound contents (creates path value version) sound allowed = after_creation-IsSound contents sound path value version allowed.0 allowed.1
+  after-IsSound contents (opens id) sound allowed = after_opening-IsSound contents sound id
+  after-IsSound contents (removes path) sound allowed = after_removal-IsSound contents sound path
+  after-IsSound contents (closes handle) sound allowed = after_close-IsSound contents sound handle allowed
+  after-IsSound contents (finishes id value version) sound allowed = after_finish-IsSound contents sound id value version
+  after-IsSound contents (withdraws handle) sound allowed = after_withdrawal-IsSound contents sound handle allowed
   after-IsSound contents (sets_value id value) sound allowed = with_value-IsSound contents sound id value
-  after-IsSound contents (sets_version path version) sound allowed = version_set-IsSound contents sound path version
+  after-IsSound contents (sets_version path version) sound allowed = with_version-IsSound contents sound path version
 
   pub after_all-IsSound : (contents : Contents T) (changes : List (Change T)) → IsSound contents → IsRun contents changes → IsSound (after_all contents changes)
   after_all-IsSound contents [] sound run = sound
@@ -103,24 +103,24 @@ module _ {T : Type 0} where
         ]
 
   -- an entry that is there isn't that of an id yet to be made
-  pub Has-created : (contents : Contents T) (path : List ℕ) (value : T) (version : ℕ) (handle : Handle) → Has contents handle → Has (created contents path value version) handle
-  Has-created contents path value version handle has =
-      Has-LeavesOthers contents (created contents path value version) handle has (length contents.slots) path
+  pub Has-after_creation : (contents : Contents T) (path : List ℕ) (value : T) (version : ℕ) (handle : Handle) → Has contents handle → Has (after_creation contents path value version) handle
+  Has-after_creation contents path value version handle has =
+      Has-LeavesOthers contents (after_creation contents path value version) handle has (length contents.slots) path
       (λ same.
-      let none : entry_of contents handle.id ≡ None = ap kept (get_or_past contents.slots handle.id Ended (omega arith)) in
+      let none : entry_of contents handle.id ≡ None = ap entry_in (get_or_past contents.slots handle.id Ended (omega arith)) in
       subst (λ o. IsSomeAnd o (λ entry. entry.path ≡ handle.path)) none has)
-      (created-LeavesOthers contents path value version)
+      (after_creation-LeavesOthers contents path value version)
 
   pub after-Has : (contents : Contents T) (change : Change T) (handle : Handle) → IsSound contents → IsAllowed contents change → Has contents handle → Spares contents change handle.id → Has (after contents change) handle
-  after-Has contents (creates path value version) handle sound allowed has spares = Has-created contents path value version handle has
-  after-Has contents (opens id) handle sound allowed has spares = Has-ChangesEntry contents _ handle has id _ (λ entry. refl) (opened-ChangesEntry contents id)
-  after-Has contents (removes path) handle sound allowed has spares = Has-TakesName contents _ handle has path spares (removed-TakesName contents sound path)
+  after-Has contents (creates path value version) handle sound allowed has spares = Has-after_creation contents path value version handle has
+  after-Has contents (opens id) handle sound allowed has spares = Has-ChangesEntry contents _ handle has id _ (λ entry. refl) (after_opening-ChangesEntry contents id)
+  after-Has contents (removes path) handle sound allowed has spares = Has-TakesName contents _ handle has path spares (after_removal-TakesName contents sound path)
   after-Has contents (closes other) handle sound allowed has spares =
       let at = has_entry contents other allowed in
-      Has-LetsGo contents _ handle has other at.0 at.1 spares (closed-LetsGo contents sound other at.0 at.1)
-  after-Has contents (finishes id value version) handle sound allowed has spares = Has-ChangesEntry contents _ handle has id _ (λ entry. refl) (finished-ChangesEntry contents id value version)
+      Has-LetsGo contents _ handle has other at.0 at.1 spares (after_close-LetsGo contents sound other at.0 at.1)
+  after-Has contents (finishes id value version) handle sound allowed has spares = Has-ChangesEntry contents _ handle has id _ (λ entry. refl) (after_finish-ChangesEntry contents id value version)
   after-Has contents (withdraws other) handle sound allowed has spares =
-      let gone = withdrawn-Withdraws contents sound other in
-      Has-LeavesOthers contents (withdrawn contents other) handle has other.id other.path (λ same. spares (sym same)) gone.others
+      let gone = after_withdrawal-Withdraws contents sound other in
+      Has-LeavesOthers contents (after_withdrawal contents other) handle has other.id other.path (λ same. spares (sym same)) gone.others
   after-Has contents (sets_value id value) handle sound allowed has spares = Has-ChangesEntry contents _ handle has id _ (λ entry. refl) (with_value-ChangesEntry contents id value)
-  after-Has contents (sets_version path version) handle sound allowed has spares = Has-ChangesNamedEntry contents _ handle has path _ (λ entry. refl) (version_set-ChangesNamedEntry contents path version)
+  after-Has contents (sets_version path version) handle sound allowed has spares = Has-ChangesNamedEntry contents _ handle has path _ (λ entry. refl) (with_version-ChangesNamedEntry contents path version)

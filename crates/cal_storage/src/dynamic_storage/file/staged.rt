@@ -2,12 +2,13 @@
 ghost use Rattle.std.specs.Prelude.{◌≡◌, ◌≤◌, ◌^◌, true, false, ◌↔◌, IsOk, IfOk, IfErr, IfSome, OnOk, OnErr};
 ghost use Rattle.std.specs.Result.{is_ok};
 ghost use Rattle.cal_storage.specs.Contents.{Has, value_of};
+ghost use Rattle.cal_storage.specs.Holding.{KeepsHandles, KeepsOtherHandles};
 ghost use Rattle.cal_storage.specs.Initializer.{MayInitialize};
 ghost use Rattle.cal_storage.specs.RegistryCalls.{FinishesEntry};
 ghost use Rattle.cal_storage.specs.Soundness.{IsSound};
 
 use crate::dynamic_storage::DynamicStorageCreateError;
-use crate::file::Storage;
+use crate::dynamic_storage::file::Storage;
 use crate::handle::Handle;
 use crate::registry::Registry;
 use cal_alloc::BumpAllocator;
@@ -18,8 +19,11 @@ use std::marker::{Model, PhantomData};
 #[derive_where(Debug)]
 #[derive(Drop)]
 pub struct Staged<T> {
+    /// The name of the storage.
     name: FileName,
+    /// The entry that is being made.
     handle: Handle,
+    /// The room of the initializer in bytes, at most 2^56.
     supplementary_size: usize,
     of: PhantomData<T>,
 }
@@ -50,7 +54,7 @@ impl<T> Staged<T> {
 }
 
 impl<T: Drop> Staged<T> {
-    /// Finishes the storage: the initializer is called once, on the value and an allocator over the room. Where it answers
+    /// Finishes the storage: the initializer is called on the value and an allocator over the room. Where it answers
     /// true the storage has the value that it left, and can be opened; it is the holder from then on. Where it answers false
     /// that is `InitializationFailed`: the value is dropped, the entry has ended, and its name is gone where it still stood
     /// for it. Succeeds too where the name was removed. Takes no memory.
@@ -65,6 +69,8 @@ impl<T: Drop> Staged<T> {
         ensures handle { IfOk result (λ storage. storage.handle ≡ self.handle) }
         ensures name { IfOk result (λ storage. storage.name ≡ self.name) }
         ensures error { IfErr result (λ error. error ≡ DynamicStorageCreateError.InitializationFailed) }
+        ensures keeps { OnOk result (KeepsHandles reg.old reg.new) }
+        ensures keeps_others { KeepsOtherHandles reg.old reg.new self.handle.id }
         ensures sound { IsSound reg.old }
     {
         if !reg.finish(&self.handle, self.supplementary_size, initializer) {
