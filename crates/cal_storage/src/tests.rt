@@ -1,9 +1,9 @@
 //! Worked examples through the public calls.
 
-mod calls;
 mod initializers;
 mod names;
 mod owners;
+mod peeks;
 mod shared_registries;
 mod staged_entries;
 mod stored_value;

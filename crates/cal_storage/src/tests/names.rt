@@ -1,8 +1,8 @@
 //! Which names a registry has, and which it lists.
-use super::calls::{creation_error, make, opening_error};
+use crate::dynamic_storage::{file, process_local};
 use crate::{
-    DynamicStorage, DynamicStorageBuilder, DynamicStorageCreateError, DynamicStorageOpenError,
-    DynamicStorageOpenOrCreateError, Registry, file, process_local,
+    AccessMode, DynamicStorage, DynamicStorageBuilder, DynamicStorageCreateError,
+    DynamicStorageOpenError, DynamicStorageOpenOrCreateError, Registry,
 };
 use cal_names::{FileName, FilePath, NamedConcept, NamedConceptBuilder, NamedConceptConfiguration};
 use std::alloc::Global;
@@ -16,10 +16,10 @@ fn a_long_name_has_no_path<S: DynamicStorage<i64>>(
 ) -> Result<(), Fail> {
     let name = FileName::new(&[b'a'; 255]).ok_or("a file name")?;
     let mut reg = Registry::new(alloc);
-    let error = creation_error::<S>(&mut reg, &name, true)?;
-    assert_eq!(rt; error, DynamicStorageCreateError::PathTooLong);
-    let error = opening_error::<S>(&mut reg, &name)?;
-    assert_eq!(rt; error, DynamicStorageOpenError::PathTooLong);
+    let refused = S::Builder::new(&name).create(&mut reg, 873, |_, _| true);
+    assert_eq!(rt; refused.err(), Some(DynamicStorageCreateError::PathTooLong));
+    let refused = S::Builder::new(&name).open(&mut reg, AccessMode::Read);
+    assert_eq!(rt; refused.err(), Some(DynamicStorageOpenError::PathTooLong));
     let result = S::Builder::new(&name).open_or_create(&mut reg, 444, |_, _| true);
     assert_eq!(rt;
         result.err(),
@@ -79,7 +79,7 @@ fn names_are_listed<S: DynamicStorage<i64>>(rt: &impl Abort, alloc: Global) -> R
     let mut reg = Registry::new(alloc);
     for text in ["b", "ab", "a", "B", "a-"] {
         let name = FileName::new(text.as_bytes()).ok_or("a file name")?;
-        let _made = make::<S>(&mut reg, &name, 444, true)?;
+        let _made = S::Builder::new(&name).create(&mut reg, 444, |_, _| true)?;
     }
     let other = FileName::new(b"other").ok_or("a file name")?;
     let prefix = FileName::new(b"hidden_").ok_or("a file name")?;
@@ -105,7 +105,7 @@ fn a_path_is_there<S: DynamicStorage<i64>>(rt: &impl Abort, alloc: Global) -> Re
     let mut reg = Registry::new(alloc);
     let path = S::Configuration::default().path_for(&name)?;
     assert!(rt; !reg.contains(&path));
-    let _made = make::<S>(&mut reg, &name, 444, true)?;
+    let _made = S::Builder::new(&name).create(&mut reg, 444, |_, _| true)?;
     assert!(rt; reg.contains(&path));
     let other = FilePath::new(b"/tmp/myDynStorage").ok_or("a file path")?;
     assert!(rt; !reg.contains(&other));

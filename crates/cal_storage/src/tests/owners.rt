@@ -1,7 +1,7 @@
 //! What the close of an owner takes, and what it leaves.
-use super::calls::{close, make, open, remove};
-use crate::{DynamicStorage, Registry, file, process_local};
-use cal_names::FileName;
+use crate::dynamic_storage::{file, process_local};
+use crate::{AccessMode, DynamicStorage, DynamicStorageBuilder, Registry};
+use cal_names::{FileName, NamedConceptBuilder};
 use std::alloc::Global;
 use std::process::Abort;
 use std::test::Fail;
@@ -13,12 +13,12 @@ fn a_name_that_was_made_anew_stays<S: DynamicStorage<i64>>(
 ) -> Result<(), Fail> {
     let name = FileName::new(b"myDynStorage").ok_or("a file name")?;
     let mut reg = Registry::new(alloc);
-    let first = make::<S>(&mut reg, &name, 444, true)?;
-    assert_eq!(rt; remove::<S>(alloc, &mut reg, &name), Ok(true));
-    let _second = make::<S>(&mut reg, &name, 873, true)?;
-    close(&mut reg, first);
+    let first = S::Builder::new(&name).create(&mut reg, 444, |_, _| true)?;
+    assert_eq!(rt; S::remove(alloc, &mut reg, &name), Ok(true));
+    let _second = S::Builder::new(&name).create(&mut reg, 873, |_, _| true)?;
+    first.close(&mut reg);
     assert_eq!(rt; S::does_exist(&reg, &name), Ok(true));
-    let third = open::<S>(&mut reg, &name)?;
+    let third = S::Builder::new(&name).open(&mut reg, AccessMode::ReadWrite)?;
     assert_eq!(rt; *third.get(&reg), 873);
     Ok(())
 }
@@ -36,12 +36,14 @@ fn a_new_owner_takes_the_name<S: DynamicStorage<i64>>(
 ) -> Result<(), Fail> {
     let name = FileName::new(b"myDynStorage").ok_or("a file name")?;
     let mut reg = Registry::new(alloc);
-    let first = make::<S>(&mut reg, &name, 444, false)?;
-    let mut second = open::<S>(&mut reg, &name)?;
+    let first = S::Builder::new(&name)
+        .has_ownership(false)
+        .create(&mut reg, 444, |_, _| true)?;
+    let mut second = S::Builder::new(&name).open(&mut reg, AccessMode::ReadWrite)?;
     assert!(rt; !second.has_ownership());
     second.acquire_ownership();
     assert!(rt; second.has_ownership());
-    close(&mut reg, second);
+    second.close(&mut reg);
     assert_eq!(rt; S::does_exist(&reg, &name), Ok(false));
     assert_eq!(rt; *first.get(&reg), 444);
     Ok(())
@@ -57,11 +59,19 @@ fn new_owners_take_the_name(rt: HostRuntime) -> Result<(), Fail> {
 fn an_id_is_not_used_again(rt: HostRuntime) -> Result<(), Fail> {
     let name = FileName::new(b"myDynStorage").ok_or("a file name")?;
     let mut reg = Registry::new(rt.alloc());
-    let first = make::<file::Storage<i64>>(&mut reg, &name, 444, true)?;
+    let first = <file::Storage<i64> as DynamicStorage<i64>>::Builder::new(&name).create(
+        &mut reg,
+        444,
+        |_, _| true,
+    )?;
     let first_id = first.handle.id;
-    close(&mut reg, first);
+    first.close(&mut reg);
     assert_eq!(rt; reg.len(), 0);
-    let second = make::<file::Storage<i64>>(&mut reg, &name, 873, true)?;
+    let second = <file::Storage<i64> as DynamicStorage<i64>>::Builder::new(&name).create(
+        &mut reg,
+        873,
+        |_, _| true,
+    )?;
     assert_eq!(rt; first_id, 0);
     assert_eq!(rt; second.handle.id, 1);
     Ok(())

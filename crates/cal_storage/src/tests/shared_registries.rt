@@ -1,5 +1,5 @@
 //! A registry that two workers use.
-use crate::file::{Builder, Configuration, Storage};
+use crate::dynamic_storage::file::{Builder, Configuration, Storage};
 use crate::{
     AccessMode, DynamicStorageBuilder, DynamicStorageCreateError, DynamicStorageOpenError,
     Registry, SharedRegistry,

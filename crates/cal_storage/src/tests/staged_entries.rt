@@ -1,58 +1,36 @@
 //! Entries that are begun and finished later.
-ghost use Rattle.std.specs.Prelude.{◌≡◌, IfOk, OnErr};
-ghost use Rattle.cal_storage.specs.Contents.{Has};
-ghost use Rattle.cal_storage.specs.Holding.{Holds, KeepsHandles};
-
-use super::calls::{creation_error, make, open, opening_error, remove};
-use crate::file::{Builder, Configuration, Staged, Storage};
+use crate::dynamic_storage::file::{Builder, Configuration, Storage};
+use crate::dynamic_storage::process_local;
 use crate::{
-    DynamicStorage, DynamicStorageCreateError, DynamicStorageOpenError, Registry, process_local,
+    AccessMode, DynamicStorage, DynamicStorageBuilder, DynamicStorageCreateError,
+    DynamicStorageOpenError, Registry,
 };
-use cal_names::{FileName, NamedConceptBuilder, NamedConceptConfiguration};
+use cal_names::{FileName, NamedConceptBuilder, NamedConceptConfiguration, NamedConceptMgmt};
 use std::test::Fail;
-
-/// Begins the storage of this name.
-fn begin(reg: &mut Registry<i64>, name: &FileName) -> Result<Staged<i64>, DynamicStorageCreateError>
-    ensures holds { IfOk result (λ staged. Holds reg.new 1 staged.handle) }
-    ensures unchanged { OnErr result (reg.new ≡ reg.old) }
-{
-    let staged = Builder::<i64>::new(name).begin(reg, 444)?;
-    Ok(staged)
-}
-
-/// Finishes a storage. Its initializer leaves 873, and answers this.
-fn finish(
-    reg: &mut Registry<i64>,
-    staged: Staged<i64>,
-    answer: bool,
-) -> Result<Storage<i64>, DynamicStorageCreateError>
-    requires { Holds reg.old 1 staged.handle }
-    ensures { IfOk result (λ storage. Holds reg.new 1 storage.handle) }
-{
-    let storage = staged.finish(reg, |value, _| {
-        *value = 873;
-        answer
-    })?;
-    Ok(storage)
-}
 
 #[test]
 fn an_entry_is_opened_once_it_is_finished(rt: HostRuntime) -> Result<(), Fail> {
     let name = FileName::new(b"myDynStorage").ok_or("a file name")?;
     let mut reg = Registry::new(rt.alloc());
-    let staged = begin(&mut reg, &name)?;
-    let error = opening_error::<Storage<i64>>(&mut reg, &name)?;
+    let staged = Builder::<i64>::new(&name).begin(&mut reg, 444)?;
+    let refused = Builder::<i64>::new(&name).open(&mut reg, AccessMode::Read);
     assert_eq!(rt;
-        error,
-        DynamicStorageOpenError::InitializationNotYetFinalized
+        refused.err(),
+        Some(DynamicStorageOpenError::InitializationNotYetFinalized)
     );
-    let _storage = finish(&mut reg, staged, true)?;
-    let opened = open::<Storage<i64>>(&mut reg, &name)?;
+    let _storage = staged.finish(&mut reg, |value, _| {
+        *value = 873;
+        true
+    })?;
+    let opened = Builder::<i64>::new(&name).open(&mut reg, AccessMode::ReadWrite)?;
     assert_eq!(rt; *opened.get(&reg), 873);
     let path = Configuration::<i64>::default().path_for(&name)?;
     assert!(rt; reg.set_version(&path, 9002));
-    let error = opening_error::<Storage<i64>>(&mut reg, &name)?;
-    assert_eq!(rt; error, DynamicStorageOpenError::VersionMismatch);
+    let refused = Builder::<i64>::new(&name).open(&mut reg, AccessMode::Read);
+    assert_eq!(rt;
+        refused.err(),
+        Some(DynamicStorageOpenError::VersionMismatch)
+    );
     Ok(())
 }
 
@@ -60,10 +38,13 @@ fn an_entry_is_opened_once_it_is_finished(rt: HostRuntime) -> Result<(), Fail> {
 fn the_path_of_an_entry_that_is_being_made_is_taken(rt: HostRuntime) -> Result<(), Fail> {
     let name = FileName::new(b"myDynStorage").ok_or("a file name")?;
     let mut reg = Registry::new(rt.alloc());
-    let _staged = begin(&mut reg, &name)?;
-    let error = creation_error::<Storage<i64>>(&mut reg, &name, true)?;
-    assert_eq!(rt; error, DynamicStorageCreateError::AlreadyExists);
-    let begun = begin(&mut reg, &name);
+    let _staged = Builder::<i64>::new(&name).begin(&mut reg, 444)?;
+    let refused = Builder::<i64>::new(&name).create(&mut reg, 873, |_, _| true);
+    assert_eq!(rt;
+        refused.err(),
+        Some(DynamicStorageCreateError::AlreadyExists)
+    );
+    let begun = Builder::<i64>::new(&name).begin(&mut reg, 444);
     assert_eq!(rt; begun.err(), Some(DynamicStorageCreateError::AlreadyExists));
     Ok(())
 }
@@ -72,14 +53,17 @@ fn the_path_of_an_entry_that_is_being_made_is_taken(rt: HostRuntime) -> Result<(
 fn a_refused_value_frees_its_path(rt: HostRuntime) -> Result<(), Fail> {
     let name = FileName::new(b"myDynStorage").ok_or("a file name")?;
     let mut reg = Registry::new(rt.alloc());
-    let staged = begin(&mut reg, &name)?;
-    let finished = finish(&mut reg, staged, false);
+    let staged = Builder::<i64>::new(&name).begin(&mut reg, 444)?;
+    let finished = staged.finish(&mut reg, |value, _| {
+        *value = 873;
+        false
+    });
     assert_eq!(rt;
         finished.err(),
         Some(DynamicStorageCreateError::InitializationFailed)
     );
     assert_eq!(rt; reg.len(), 0);
-    let again = make::<Storage<i64>>(&mut reg, &name, 456, true)?;
+    let again = Builder::<i64>::new(&name).create(&mut reg, 456, |_, _| true)?;
     assert_eq!(rt; *again.get(&reg), 456);
     Ok(())
 }
@@ -88,12 +72,15 @@ fn a_refused_value_frees_its_path(rt: HostRuntime) -> Result<(), Fail> {
 fn an_entry_is_finished_without_its_name(rt: HostRuntime) -> Result<(), Fail> {
     let name = FileName::new(b"myDynStorage").ok_or("a file name")?;
     let mut reg = Registry::new(rt.alloc());
-    let staged = begin(&mut reg, &name)?;
+    let staged = Builder::<i64>::new(&name).begin(&mut reg, 444)?;
     assert_eq!(rt;
-        remove::<Storage<i64>>(rt.alloc(), &mut reg, &name),
+        Storage::<i64>::remove(rt.alloc(), &mut reg, &name),
         Ok(true)
     );
-    let storage = finish(&mut reg, staged, true)?;
+    let storage = staged.finish(&mut reg, |value, _| {
+        *value = 873;
+        true
+    })?;
     assert_eq!(rt; *storage.get(&reg), 873);
     assert_eq!(rt; reg.len(), 0);
     Ok(())
@@ -103,8 +90,8 @@ fn an_entry_is_finished_without_its_name(rt: HostRuntime) -> Result<(), Fail> {
 fn a_process_local_storage_is_opened_while_it_is_being_made(rt: HostRuntime) -> Result<(), Fail> {
     let name = FileName::new(b"myDynStorage").ok_or("a file name")?;
     let mut reg = Registry::new(rt.alloc());
-    let _staged = begin(&mut reg, &name)?;
-    let opened = open::<process_local::Storage<i64>>(&mut reg, &name)?;
+    let _staged = Builder::<i64>::new(&name).begin(&mut reg, 444)?;
+    let opened = process_local::Builder::<i64>::new(&name).open(&mut reg, AccessMode::ReadWrite)?;
     assert_eq!(rt; *opened.get(&reg), 444);
     Ok(())
 }

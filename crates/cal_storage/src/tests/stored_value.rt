@@ -1,11 +1,13 @@
 //! A value that is stored under a name and read back, through the bound alone.
 ghost use Rattle.std.specs.Prelude.{◌≡◌, Some, IfOk, OnOk, OnErr};
 ghost use Rattle.cal_names.specs.ConceptSettings.{file_path_for};
-ghost use Rattle.cal_storage.specs.Holding.{value_at};
+ghost use Rattle.cal_storage.specs.Contents.{value_at};
 
-use super::calls::create;
-use crate::{DynamicStorage, DynamicStorageCreateError, Registry, file, process_local};
-use cal_names::FileName;
+use crate::dynamic_storage::{file, process_local};
+use crate::{
+    AccessMode, DynamicStorage, DynamicStorageBuilder, DynamicStorageCreateError, Registry,
+};
+use cal_names::{FileName, NamedConceptBuilder};
 use std::test::Fail;
 
 /// Stores a value under a name that nobody owns, reads it back, and closes. It asks nothing of its caller.
@@ -18,7 +20,9 @@ fn store<S: DynamicStorage<i64>>(
     ensures stays { OnOk result (value_at reg.new (file_path_for S.Configuration.initial name.now) ≡ Some value) }
     ensures unchanged { OnErr result (reg.new ≡ reg.old) }
 {
-    let storage = create::<S>(reg, name, 0, false, true)?;
+    let storage = S::Builder::new(name)
+        .has_ownership(false)
+        .create(reg, 0, |_, _| true)?;
     *S::get_mut(reg, &storage) = value;
     let read = *storage.get(reg);
     storage.close(reg);

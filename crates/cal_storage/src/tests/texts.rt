@@ -1,7 +1,8 @@
 //! The texts of errors, and how a storage and a registry are shown.
+use crate::dynamic_storage::process_local;
 use crate::{
     DynamicStorageBuilder, DynamicStorageCreateError, DynamicStorageOpenError,
-    DynamicStorageOpenOrCreateError, Registry, process_local,
+    DynamicStorageOpenOrCreateError, Registry,
 };
 use cal_names::{FileName, NamedConceptBuilder};
 use std::alloc::{AllocError, Global};

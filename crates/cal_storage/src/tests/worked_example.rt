@@ -1,40 +1,60 @@
 //! The worked example of a storage, for both kinds.
-use super::calls::{
-    close, create, creation_error, make, open, open_or_create, opening_error, remove, set,
-};
+use crate::dynamic_storage::{file, process_local};
 use crate::{
-    DynamicStorage, DynamicStorageCreateError, DynamicStorageOpenError, Registry, file,
-    process_local,
+    AccessMode, DynamicStorage, DynamicStorageBuilder, DynamicStorageCreateError,
+    DynamicStorageOpenError, Registry,
 };
-use cal_names::FileName;
+use cal_names::{FileName, NamedConceptBuilder};
 use std::alloc::Global;
 use std::process::Abort;
 use std::test::Fail;
 
-/// One makes a storage, another opens it, and both see what either writes, also once its name was removed.
+/// One makes a storage, another opens it, and both see what either writes.
 fn both_see_what_is_written<S: DynamicStorage<i64>>(
     rt: &impl Abort,
     alloc: Global,
 ) -> Result<(), Fail> {
     let name = FileName::new(b"myDynStorage").ok_or("a file name")?;
     let mut reg = Registry::new(alloc);
-    let first = make::<S>(&mut reg, &name, 444, true)?;
-    let error = creation_error::<S>(&mut reg, &name, true)?;
-    assert_eq!(rt; error, DynamicStorageCreateError::AlreadyExists);
-    let second = open::<S>(&mut reg, &name)?;
+    let first = S::Builder::new(&name).create(&mut reg, 444, |_, _| true)?;
+    let refused = S::Builder::new(&name).create(&mut reg, 873, |_, _| true);
+    assert_eq!(rt;
+        refused.err(),
+        Some(DynamicStorageCreateError::AlreadyExists)
+    );
+    let second = S::Builder::new(&name).open(&mut reg, AccessMode::ReadWrite)?;
     assert_eq!(rt; *second.get(&reg), 444);
-    set(&mut reg, &second, 456);
+    *S::get_mut(&mut reg, &second) = 456;
     assert_eq!(rt; *first.get(&reg), 456);
     assert_eq!(rt; *second.get(&reg), 456);
     let names = S::list(alloc, &reg)?;
     assert_eq!(rt; names.as_slice(), [name].as_slice());
-    assert_eq!(rt; remove::<S>(alloc, &mut reg, &name), Ok(true));
-    assert_eq!(rt; remove::<S>(alloc, &mut reg, &name), Ok(false));
-    let error = opening_error::<S>(&mut reg, &name)?;
-    assert_eq!(rt; error, DynamicStorageOpenError::DoesNotExist);
+    Ok(())
+}
+
+/// Once its name is removed, a storage is read by those who hold it, and opened by nobody.
+fn both_read_without_the_name<S: DynamicStorage<i64>>(
+    rt: &impl Abort,
+    alloc: Global,
+) -> Result<(), Fail> {
+    let name = FileName::new(b"myDynStorage").ok_or("a file name")?;
+    let config = S::Configuration::default();
+    let mut reg = Registry::new(alloc);
+    let first = S::Builder::new(&name).create(&mut reg, 456, |_, _| true)?;
+    let second = S::Builder::new(&name).open(&mut reg, AccessMode::Read)?;
+    assert!(rt; S::remove_name(&mut reg, &name, &config));
     assert_eq!(rt; *first.get(&reg), 456);
     assert_eq!(rt; *second.get(&reg), 456);
+    let refused = S::Builder::new(&name).open(&mut reg, AccessMode::Read);
+    assert_eq!(rt; refused.err(), Some(DynamicStorageOpenError::DoesNotExist));
+    assert_eq!(rt; S::remove(alloc, &mut reg, &name), Ok(false));
     Ok(())
+}
+
+#[test]
+fn both_holders_read_without_the_name(rt: HostRuntime) -> Result<(), Fail> {
+    both_read_without_the_name::<process_local::Storage<i64>>(&rt, rt.alloc())?;
+    both_read_without_the_name::<file::Storage<i64>>(&rt, rt.alloc())
 }
 
 #[test]
@@ -50,12 +70,15 @@ fn a_refused_value_leaves_nothing<S: DynamicStorage<i64>>(
 ) -> Result<(), Fail> {
     let name = FileName::new(b"myDynStorage").ok_or("a file name")?;
     let mut reg = Registry::new(alloc);
-    let error = creation_error::<S>(&mut reg, &name, false)?;
-    assert_eq!(rt; error, DynamicStorageCreateError::InitializationFailed);
+    let refused = S::Builder::new(&name).create(&mut reg, 873, |_, _| false);
+    assert_eq!(rt;
+        refused.err(),
+        Some(DynamicStorageCreateError::InitializationFailed)
+    );
     let names = S::list(alloc, &reg)?;
     assert!(rt; names.is_empty());
     assert_eq!(rt; reg.len(), 0);
-    let _made = create::<S>(&mut reg, &name, 444, true, true)?;
+    let _made = S::Builder::new(&name).create(&mut reg, 444, |_, _| true)?;
     assert_eq!(rt; reg.len(), 1);
     Ok(())
 }
@@ -73,16 +96,16 @@ fn a_value_outlives_its_holders<S: DynamicStorage<i64>>(
 ) -> Result<(), Fail> {
     let name = FileName::new(b"myDynStorage").ok_or("a file name")?;
     let mut reg = Registry::new(alloc);
-    let mut first = open_or_create::<S>(&mut reg, &name, 873, true)?;
-    let second = open_or_create::<S>(&mut reg, &name, 444, false)?;
+    let mut first = S::Builder::new(&name).open_or_create(&mut reg, 873, |_, _| true)?;
+    let second = S::Builder::new(&name).open_or_create(&mut reg, 444, |_, _| false)?;
     assert_eq!(rt; *second.get(&reg), 873);
     assert!(rt; first.has_ownership());
     first.release_ownership();
     assert!(rt; !first.has_ownership());
     assert!(rt; !second.has_ownership());
-    close(&mut reg, first);
-    close(&mut reg, second);
-    let third = open::<S>(&mut reg, &name)?;
+    first.close(&mut reg);
+    second.close(&mut reg);
+    let third = S::Builder::new(&name).open(&mut reg, AccessMode::ReadWrite)?;
     assert_eq!(rt; *third.get(&reg), 873);
     Ok(())
 }
