@@ -8,15 +8,17 @@ use Rattle.cal_names.specs.FilePath.{IsFilePath, file_path_of, path_part, file_n
 use Rattle.cal_names.specs.ConceptSettings.{ConceptSettings, settings_of, parts_of, type_part, file_name_for, file_path_for, extracted_name_at}
 use Rattle.cal_names.specs.declared.path_parts.PathParts.{PathParts}
 use Rattle.cal_names.specs.Extraction.{extracted_name_at-exact}
-use Rattle.cal_names.proofs.FilePaths.{parts}
-use Rattle.cal_names.proofs.TypeHashes.{type_hash_bytes}
+use Rattle.cal_names.proofs.FilePathLemmas.{parts}
+use Rattle.cal_names.proofs.TypeHashLemmas.{type_hash_bytes}
 
 type_part_bytes : (type_name : Option (List ℕ)) → AllPass is_file_name_byte (type_part type_name)
 type_part_bytes None = All-nil (λ b. is_file_name_byte b ≡ true)
 type_part_bytes (Some type_name) =
-    All-append (λ b. is_file_name_byte b ≡ true) _ _ (type_hash_bytes type_name) (AllPass-from_list_all is_file_name_byte (codes "_") refl)
+    All-append (λ b. is_file_name_byte b ≡ true) _ _ (type_hash_bytes type_name)
+    (AllPass-from_list_all is_file_name_byte (codes "_") refl)
 
-pub is_file_name_for : (settings : ConceptSettings) (name : List ℕ) → IsFileName settings.prefix → IsFileName name → IsFileName settings.suffix → length (file_name_for settings name) ≤ 255 → IsFileName (file_name_for settings name)
+pub is_file_name_for : (settings : ConceptSettings) (name : List ℕ) → IsFileName settings.prefix → IsFileName name →
+    IsFileName settings.suffix → length (file_name_for settings name) ≤ 255 → IsFileName (file_name_for settings name)
 is_file_name_for settings name prefix own suffix fits =
     let P : ℕ → Type 0 = λ b. is_file_name_byte b ≡ true in
     let front : List ℕ = settings.prefix ++ type_part settings.type_name in
@@ -32,22 +34,31 @@ is_file_name_for settings name prefix own suffix fits =
     record {
       not_empty = omega arith;
       fits = fits;
-      bytes = All-append P (front ++ name) settings.suffix (All-append P front name (All-append P settings.prefix (type_part settings.type_name) prefix.bytes (type_part_bytes settings.type_name)) own.bytes) suffix.bytes;
+      bytes = All-append P (front ++ name) settings.suffix
+          (All-append P front name
+          (All-append P settings.prefix (type_part settings.type_name) prefix.bytes
+          (type_part_bytes settings.type_name)) own.bytes) suffix.bytes;
       not_dot = λ same. omega (arith, ap length same);
       not_two_dots = λ same. omega (arith, ap length same);
     }
 
 -- a file path stands for a name exactly where it is the path of this name
-pub stands_for : (settings : ConceptSettings) (own other name : List ℕ) → IsFileName name → path_part own ≡ settings.path_hint → file_name_part own ≡ file_name_for settings name → own ≡ file_path_for settings name → IsFilePath other → (extracted_name_at settings other ≡ Some name) ↔ (own ≡ other)
+pub stands_for : (settings : ConceptSettings) (own other name : List ℕ) → IsFileName name →
+    path_part own ≡ settings.path_hint → file_name_part own ≡ file_name_for settings name →
+    own ≡ file_path_for settings name → IsFilePath other →
+    (extracted_name_at settings other ≡ Some name) ↔ (own ≡ other)
 stands_for settings own other name rule at_hint file made is_path = (
   λ found.
       let told = (extracted_name_at-exact settings other name).0 found in
-      made ∙ sym (ap (λ p. file_path_of p (file_name_for settings name)) told.1) ∙ sym (ap (file_path_of (path_part other)) told.2) ∙ (parts other is_path).joined,
-  λ same. (extracted_name_at-exact settings other name).1 (rule, ap path_part (sym same) ∙ at_hint, ap file_name_part (sym same) ∙ file),
+      made ∙ sym (ap (λ p. file_path_of p (file_name_for settings name)) told.1)
+      ∙ sym (ap (file_path_of (path_part other)) told.2) ∙ (parts other is_path).joined,
+  λ same. (extracted_name_at-exact settings other name).1
+      (rule, ap path_part (sym same) ∙ at_hint, ap file_name_part (sym same) ∙ file),
 )
 
 -- no file path stands for a name whose file name is too long
-pub stands_for_none : (settings : ConceptSettings) (other name : List ℕ) → 255 < length (file_name_for settings name) → IsFilePath other → extracted_name_at settings other ≡ Some name → ⊥
+pub stands_for_none : (settings : ConceptSettings) (other name : List ℕ) → 255 < length (file_name_for settings name) →
+    IsFilePath other → extracted_name_at settings other ≡ Some name → ⊥
 stands_for_none settings other name long is_path found =
     let told = (extracted_name_at-exact settings other name).0 found in
     omega (arith, ap length told.2, (parts other is_path).is_file_name.fits)

@@ -49,5 +49,8 @@ module _ {F T : Type 0} (calls : Calls F T) where
       (id_at contents (path_of plan) ≡ None) × CreateFails calls None initializer value room error
   fails_free contents plan path fits is_path_of absent initializer value room error fails =
       let none : id_at contents (path_of plan) ≡ None =
-      ap (id_at contents) (sym is_path_of) ∙ none_from_absent (id_at contents path) absent in
-      (none, subst (λ refusal. CreateFails calls refusal initializer value room error) (free contents plan fits none) fails)
+      ap (id_at contents) (sym is_path_of) ∙ none_from_absent (id_at contents path) absent in (
+        none,
+        subst (λ refusal. CreateFails calls refusal initializer value room error) (free contents plan fits none)
+            fails,
+      )

@@ -4,6 +4,7 @@ use Rattle.std.specs.Result.{IsErrOf}
 use Rattle.cal_storage.specs.declared.dynamic_storage.errors.DynamicStorageCreateError.{DynamicStorageCreateError}
 use Rattle.cal_storage.specs.declared.dynamic_storage.errors.DynamicStorageCreateError.TheVariants.{AlreadyExists}
 
-pub free_of_entered : (found : Option ℕ) (result : Result ℕ DynamicStorageCreateError) (id : ℕ) → IsErrOf result AlreadyExists ↔ IsSome found → result ≡ Ok id → found ≡ None
+pub free_of_entered : (found : Option ℕ) (result : Result ℕ DynamicStorageCreateError) (id : ℕ) →
+    IsErrOf result AlreadyExists ↔ IsSome found → result ≡ Ok id → found ≡ None
 free_of_entered None result id exists is = refl
 free_of_entered (Some other) result id exists is = absurd (cc (exists.1 refl))

@@ -13,7 +13,8 @@ use Rattle.cal_names.specs.FileName.{is_file_name_byte}
 use Rattle.cal_names.specs.TypeHash.{sextets, length-sextets, type_hash_of, length-type_hash_of, hash_letters}
 
 -- digit i, counted from the highest
-pub get_or-sextets : (count number i : ℕ) → i < count → get_or (sextets count number) i 0 ≡ number / 2 ^ (6 * (count - 1 - i)) % 64
+pub get_or-sextets : (count number i : ℕ) → i < count →
+    get_or (sextets count number) i 0 ≡ number / 2 ^ (6 * (count - 1 - i)) % 64
 unfolding sextets
 get_or-sextets zero number i within = absurd (omega arith)
 get_or-sextets (suc count) number i within =
@@ -33,7 +34,8 @@ get_or-sextets (suc count) number i within =
     (cases_lt i count)
 
 -- the digits behind a number are gone when it is divided by their worth
-number_after_shr : (ds : List ℕ) (n : ℕ) → ((k : ℕ) → get_or ds k 0 < 256) → number_from_digits_after 256 n ds / 2 ^ (8 * length ds) ≡ n
+number_after_shr : (ds : List ℕ) (n : ℕ) → ((k : ℕ) → get_or ds k 0 < 256) →
+    number_from_digits_after 256 n ds / 2 ^ (8 * length ds) ≡ n
 number_after_shr [] n bytes = omega arith
 number_after_shr (d ∷ ds) n bytes =
     let all : ℕ = number_from_digits_after 256 (n * 256 + d) ds in
@@ -44,9 +46,11 @@ number_after_shr (d ∷ ds) n bytes =
     ap (λ e. all / 2 ^ e) more ∙ sym (shr-shr all (8 * length ds) 8) ∙ ap (λ x. x / 2 ^ 8) rest ∙ quotient
 
 -- the first digits of a number
-number_shr : (ds : List ℕ) (k : ℕ) → k ≤ length ds → ((i : ℕ) → get_or ds i 0 < 256) → number_from_digits 256 ds / 2 ^ (8 * (length ds - k)) ≡ number_from_digits 256 (take k ds)
+number_shr : (ds : List ℕ) (k : ℕ) → k ≤ length ds → ((i : ℕ) → get_or ds i 0 < 256) →
+    number_from_digits 256 ds / 2 ^ (8 * (length ds - k)) ≡ number_from_digits 256 (take k ds)
 number_shr ds k within bytes =
-    let parts : number_from_digits 256 ds ≡ number_from_digits_after 256 (number_from_digits 256 (take k ds)) (drop k ds) =
+    let parts : number_from_digits 256 ds ≡ number_from_digits_after 256 (number_from_digits 256 (take k ds))
+    (drop k ds) =
     ap (number_from_digits 256) (sym (take-append-drop k ds)) ∙ number_after_append 256 0 (take k ds) (drop k ds) in
     ap (λ n. number_from_digits 256 ds / 2 ^ (8 * n)) (sym (length-drop k ds))
     ∙ ap (λ n. n / 2 ^ (8 * length (drop k ds))) parts
@@ -60,7 +64,8 @@ get_or_before_zero (x ∷ xs) zero = refl
 get_or_before_zero (x ∷ xs) (suc i) = get_or_before_zero xs i
 
 -- what stands above sixteen bits is gone in six bits of these
-low_bits : (high pair bit place : ℕ) → bit ≡ 6 * place % 8 → (high * 65536 + pair) / 2 ^ (10 - bit) % 64 ≡ pair / 2 ^ (10 - bit) % 64
+low_bits : (high pair bit place : ℕ) → bit ≡ 6 * place % 8 →
+    (high * 65536 + pair) / 2 ^ (10 - bit) % 64 ≡ pair / 2 ^ (10 - bit) % 64
 low_bits high pair bit place is =
     let P : ℕ → Type 0 = λ b. (high * 65536 + pair) / 2 ^ (10 - b) % 64 ≡ pair / 2 ^ (10 - b) % 64 in
     ⊎_elim (λ (e : bit ≡ 0). subst P (sym e) (omega arith)) (λ not_0.
@@ -70,7 +75,9 @@ low_bits high pair bit place is =
     (cases_eq bit 4)) (cases_eq bit 2)) (cases_eq bit 0)
 
 -- six bits of two bytes
-pub sextet_of_pair : (hash : List ℕ) (place : ℕ) → length hash ≡ 20 → ((i : ℕ) → get_or hash i 0 < 256) → place < 27 → (get_or hash (6 * place / 8) 0 * 256 + get_or hash (6 * place / 8 + 1) 0) / 2 ^ (10 - 6 * place % 8) % 64 ≡ number_from_digits 256 hash * 4 / 2 ^ (6 * (26 - place)) % 64
+pub sextet_of_pair : (hash : List ℕ) (place : ℕ) → length hash ≡ 20 → ((i : ℕ) → get_or hash i 0 < 256) → place < 27 →
+    (get_or hash (6 * place / 8) 0 * 256 + get_or hash (6 * place / 8 + 1) 0) / 2 ^ (10 - 6 * place % 8) % 64 ≡
+    number_from_digits 256 hash * 4 / 2 ^ (6 * (26 - place)) % 64
 sextet_of_pair hash place whole bytes within =
     let byte : ℕ = 6 * place / 8 in
     let bit : ℕ = 6 * place % 8 in
@@ -89,18 +96,23 @@ sextet_of_pair hash place whole bytes within =
     ∙ ap (λ x. x % 64) (shr-shr n 6 (6 * (26 - place)))
     ∙ ap (λ e. n / 2 ^ e % 64) steps
     ∙ ap (λ x. x % 64) (sym (shr-shr n (8 * (length longer - (byte + 1 + 1))) (10 - bit)))
-    ∙ ap (λ x. x / 2 ^ (10 - bit) % 64) (number_shr longer (byte + 1 + 1) (omega arith) (λ i. rw get_or_before_zero (bytes i)) ∙ front)
+    ∙ ap (λ x. x / 2 ^ (10 - bit) % 64)
+    (number_shr longer (byte + 1 + 1) (omega arith) (λ i. rw get_or_before_zero (bytes i)) ∙ front)
     ∙ low_bits high pair bit place refl)
 
 -- 27 letters, each by its six bits
-pub type_hash_from_letters : (name text : List ℕ) → length text ≡ 27 → ((k : ℕ) → k < 27 → get_or text k 0 ≡ get_or hash_letters (number_from_digits 256 (sha1 name) * 4 / 2 ^ (6 * (26 - k)) % 64) 0) → text ≡ type_hash_of name
+pub type_hash_from_letters : (name text : List ℕ) → length text ≡ 27 →
+    ((k : ℕ) → k < 27 → get_or text k 0 ≡
+    get_or hash_letters (number_from_digits 256 (sha1 name) * 4 / 2 ^ (6 * (26 - k)) % 64) 0) → text ≡ type_hash_of name
 unfolding type_hash_of
 type_hash_from_letters name text long letters =
     let number : ℕ = number_from_digits 256 (sha1 name) * 4 in
-    ext_get_or 0 text (map (slice_index hash_letters) (sextets 27 number)) (long ∙ sym (length-type_hash_of name)) (λ k inside.
+    ext_get_or 0 text (map (slice_index hash_letters) (sextets 27 number)) (long ∙ sym (length-type_hash_of name))
+    (λ k inside.
     let below : k < 27 = omega arith in
     let within : k < length (sextets 27 number) = omega (arith, length-sextets 27 number) in
-    letters k below ∙ sym (get_or-map (slice_index hash_letters) (sextets 27 number) k 0 0 within ∙ ap (slice_index hash_letters) (get_or-sextets 27 number k below)))
+    letters k below ∙ sym (get_or-map (slice_index hash_letters) (sextets 27 number) k 0 0 within
+    ∙ ap (slice_index hash_letters) (get_or-sextets 27 number k below)))
 
 letter_byte : (sextet : ℕ) → sextet < 64 → is_file_name_byte (get_or hash_letters sextet 0) ≡ true
 letter_byte sextet below =
@@ -114,6 +126,8 @@ type_hash_bytes name =
     All-from_get_or (λ b. is_file_name_byte b ≡ true) (type_hash_of name) 0 (λ k inside.
     let below : k < 27 = omega (arith, length-type_hash_of name) in
     let within : k < length (sextets 27 number) = omega (arith, length-sextets 27 number) in
-    let letter : get_or (map (slice_index hash_letters) (sextets 27 number)) k 0 ≡ slice_index hash_letters (number / 2 ^ (6 * (26 - k)) % 64) =
-    get_or-map (slice_index hash_letters) (sextets 27 number) k 0 0 within ∙ ap (slice_index hash_letters) (get_or-sextets 27 number k below) in
+    let letter : get_or (map (slice_index hash_letters) (sextets 27 number)) k 0 ≡ slice_index hash_letters
+    (number / 2 ^ (6 * (26 - k)) % 64) =
+    get_or-map (slice_index hash_letters) (sextets 27 number) k 0 0 within
+    ∙ ap (slice_index hash_letters) (get_or-sextets 27 number k below) in
     ap is_file_name_byte letter ∙ letter_byte (number / 2 ^ (6 * (26 - k)) % 64) (omega arith))

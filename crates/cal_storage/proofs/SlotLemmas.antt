@@ -12,7 +12,8 @@ module _ {T : Type 0} (contents : Contents T) where
   entry_within P id there =
       elim (cases_lt id (length contents.slots)) [
         | inl within ↦ within
-        | inr past ↦ absurd (subst (λ slot. IsSomeAnd (entry_in slot) P) (get_or_past contents.slots id Ended past) there)
+        | inr past ↦ absurd (subst (λ slot. IsSomeAnd (entry_in slot) P) (get_or_past contents.slots id Ended past)
+            there)
       ]
 
   -- a handle's id does, where the registry has its entry
@@ -20,5 +21,6 @@ module _ {T : Type 0} (contents : Contents T) where
   has_within handle has = entry_within (λ entry. entry.path ≡ handle.path) handle.id has
 
   -- and so does each named id
-  pub named_within : IsSound contents → (path : List ℕ) (id : ℕ) → id_at contents path ≡ Some id → id < length contents.slots
+  pub named_within : IsSound contents → (path : List ℕ) (id : ℕ) → id_at contents path ≡ Some id →
+      id < length contents.slots
   named_within sound path id at = entry_within (λ entry. entry.path ≡ path) id (sound.named path id at)
