@@ -1,4 +1,6 @@
 pub mod BumpServing
+pub mod FreeChains
+pub mod Freed
 pub mod Marks
 pub mod Padding
 pub mod PoolFacts

@@ -1,6 +1,8 @@
 pub mod Bump
 pub mod BumpLaws
 pub mod Chunks
+pub mod FreeBuckets
+pub mod FreeChain
 pub mod Growth
 pub mod Hints
 pub mod PointerOffset

@@ -73,13 +73,14 @@ pool_refusal pool layout =
     else if is_full pool then Some OutOfMemory
     else None
 
--- what every pool keeps: buckets of at least one byte, a multiple of their alignment, all within 2 ^ 56 bytes, and one
--- mark for each
+-- what every pool keeps: buckets of at least one byte, a multiple of their alignment, all within 2 ^ 56 bytes, fewer
+-- than 2 ^ 32 of them, and one mark for each
 pub record IsSoundPool (pool : Pool) : Type 0 where
   pub not_empty : 0 < pool.buckets.size
   pub power : IsTrue (is_power_of_two pool.buckets.alignment)
   pub padded : next_multiple_of pool.buckets.size pool.buckets.alignment ≡ pool.buckets.size
   pub within : pool.buckets.count * pool.buckets.size ≤ 2 ^ 56
+  pub few : pool.buckets.count < 2 ^ 32
   pub marked : length pool.used ≡ pool.buckets.count
 
 -- the new pool is the old one, but a bucket that was free is used: the one that starts at the place, in segment 0

@@ -5,6 +5,7 @@
 
 mod allocation_strategy;
 pub mod bump_allocator;
+mod free_buckets;
 mod growth;
 mod layout;
 mod pointer_offset;

@@ -1,12 +1,14 @@
 //! The pool cuts its memory into equal buckets and hands each out whole.
 
-ghost use Rattle.std.specs.Prelude.{◌≡◌, ◌<◌, ◌^◌, true, not, IsTrue, IsFalse, SomeIff, position, refl, if◌then◌else◌};
+ghost use Rattle.std.specs.Prelude.{◌≡◌, ◌<◌, ◌^◌, true, IsTrue, IsFalse, SomeIff, refl, if◌then◌else◌};
 ghost use Rattle.cal_alloc.specs.Growth.{bucket_size_of, grown_buckets, raised_count};
 ghost use Rattle.cal_alloc.specs.Hints.{pool_setup_hint, pool_resize_hint};
-ghost use Rattle.cal_alloc.specs.Pool.{IsSoundPool, pool_fits, buckets_within, new_pool, is_full, number_of_used, pool_properties, pool_refusal, GivesFreeBucket, IsUsedBucket, IsInUsedBucket, given_back, FreesBucket};
+ghost use Rattle.cal_alloc.specs.Pool.{IsSoundPool, pool_fits, buckets_within, new_pool, is_full, number_of_used, bucket_at, start_of, pool_properties, pool_refusal, GivesFreeBucket, IsUsedBucket, IsInUsedBucket, given_back, FreesBucket};
+ghost use Rattle.cal_alloc.specs.PointerOffset.{pointer_offset};
 ghost use Rattle.cal_alloc.specs.PoolLaws.{new_pool-IsNew, readied_pool-IsReadied, GivesFreeBucket-IsAllocation, FreesBucket-IsDeallocation, pool_served, pool_refused_empty};
 
 use crate::allocation_strategy::AllocationStrategy;
+use crate::free_buckets::FreeBuckets;
 use crate::growth::{raised_count, raised_size};
 use crate::layout::{Layout, checked_next_multiple_of};
 use crate::pointer_offset::PointerOffset;
@@ -26,13 +28,6 @@ fn bucket_size(layout: Layout) -> Option<usize>
         SomeIff result (size < 2 ^ 64) size }
 {
     checked_next_multiple_of(layout.size().max(1), layout.align())
-}
-
-/// The first bucket that isn't marked as used.
-fn first_free(used: &[bool]) -> Option<usize>
-    ensures { result ≡ position not used.now }
-{
-    used.iter().position(|mark| !*mark)
 }
 
 /// The layout that each bucket of a pool holds.
@@ -58,13 +53,14 @@ impl ShmAllocatorConfig for Config {}
 /// alignment; the bytes that are left at the memory's end are in no bucket.
 #[derive(Debug, Drop)]
 pub struct PoolAllocator {
+    /// The size of each bucket in bytes: at least 1, and a multiple of the alignment. All buckets have at most 2^56 bytes.
     bucket_size: usize,
+    /// The alignment of each bucket's first byte, a power of two.
     alignment: usize,
-    number_of_buckets: u32,
+    /// The greatest alignment that the memory gives.
     memory_alignment: usize,
-    // One mark for each bucket, true where it is used; none before `init` has answered Ok.
-    used: Option<Vec<bool>>,
-    number_of_used: u32,
+    /// Which buckets are free; one can be taken once `init` has answered Ok.
+    buckets: FreeBuckets,
 }
 
 impl Model for PoolAllocator {
@@ -92,29 +88,40 @@ impl PoolAllocator {
     pub fn number_of_buckets(&self) -> u32
         ensures { result ≡ self.now.buckets.count }
     {
-        self.number_of_buckets
+        self.buckets.number_of_buckets()
     }
 
     /// The number of buckets that are handed out and not given back.
     pub fn number_of_used_buckets(&self) -> u32
         ensures { result ≡ number_of_used self.now }
     {
-        self.number_of_used
+        self.buckets.number_of_used()
     }
 
-    /// Marks a free bucket as used, and gives the place where it starts.
+    /// The index of the bucket that an offset lies in, from 0.
+    pub fn bucket_of(&self, offset: PointerOffset) -> usize
+        ensures value { result ≡ bucket_at self.now offset }
+    {
+        offset.offset() / self.bucket_size
+    }
+
+    /// The offset of a bucket's first byte, in segment 0.
+    pub fn offset_of_bucket(&self, bucket: usize) -> PointerOffset
+        requires { bucket < self.now.buckets.count }
+        ensures value { result ≡ pointer_offset (start_of self.now bucket) 0 }
+        ensures bucket_back { bucket_at self.now result ≡ bucket }
+    {
+        PointerOffset::new(bucket * self.bucket_size)
+    }
+
+    /// Takes a free bucket, and gives the offset of its first byte.
     fn take_bucket(&mut self) -> PointerOffset
         requires ready { IsTrue self.old.is_ready }
         requires free { IsFalse (is_full self.old) }
         ensures { GivesFreeBucket self.old result self.new }
     {
-        let Some(used) = &mut self.used else {
-            unreachable!();
-        };
-        let bucket = first_free(used).unwrap();
-        used[bucket] = true;
-        self.number_of_used += 1;
-        PointerOffset::new(bucket * self.bucket_size)
+        let bucket = self.buckets.take();
+        self.offset_of_bucket(bucket as usize)
     }
 
     /// The layout of the buckets that the strategy takes next; `None` where their size would be 2^64 or more.
@@ -139,10 +146,11 @@ impl PoolAllocator {
         ensures { let count = self.now.buckets.count in
             result ≡ (if is_full self.now then raised_count strategy count else count) }
     {
-        if self.number_of_used == self.number_of_buckets {
-            raised_count(strategy, self.number_of_buckets)
+        let count = self.buckets.number_of_buckets();
+        if self.buckets.is_full() {
+            raised_count(strategy, count)
         } else {
-            self.number_of_buckets as usize
+            count as usize
         }
     }
 
@@ -151,12 +159,8 @@ impl PoolAllocator {
         requires { IsUsedBucket self.old offset }
         ensures { FreesBucket self.old offset self.new }
     {
-        let bucket = offset.offset() / self.bucket_size;
-        let Some(used) = &mut self.used else {
-            unreachable!();
-        };
-        used[bucket] = false;
-        self.number_of_used -= 1;
+        let bucket = self.bucket_of(offset);
+        self.buckets.give_back(bucket as u32);
     }
 }
 
@@ -258,10 +262,8 @@ impl ShmAllocator for PoolAllocator {
         PoolAllocator {
             bucket_size,
             alignment: config.bucket_layout.align(),
-            number_of_buckets: (memory_size / bucket_size) as u32,
             memory_alignment: max_supported_alignment_by_memory,
-            used: None,
-            number_of_used: 0,
+            buckets: FreeBuckets::new((memory_size / bucket_size) as u32),
         }
     }
 
@@ -269,9 +271,9 @@ impl ShmAllocator for PoolAllocator {
         if self.memory_alignment < self.alignment {
             return Err(ShmAllocatorInitError::MaxSupportedMemoryAlignmentInsufficient);
         }
-        let used = vec![in alloc; false; self.number_of_buckets as usize];
-        self.used = Some(used.map_err(|_| ShmAllocatorInitError::AllocationFailed)?);
-        Ok(())
+        self.buckets
+            .reserve(alloc)
+            .map_err(|_| ShmAllocatorInitError::AllocationFailed)
     }
 
     fn unique_id() -> u8 {
@@ -297,7 +299,7 @@ impl ShmAllocator for PoolAllocator {
         if self.bucket_size < layout.size() {
             return Err(ShmAllocationError::SizeTooLarge);
         }
-        if self.number_of_used == self.number_of_buckets {
+        if self.buckets.is_full() {
             return Err(ShmAllocationError::OutOfMemory);
         }
         Ok(self.take_bucket())
