@@ -102,4 +102,19 @@ mod tests {
         assert_eq!(rt; queue.pop(), None);
         Ok(())
     }
+
+    #[test]
+    fn values_keep_their_order_round_the_end(rt: HostRuntime) -> Result<(), Fail> {
+        let mut queue = IndexQueue::new(rt.alloc(), 3)?;
+        for value in 0..10 {
+            assert!(rt; queue.push(value));
+            assert!(rt; queue.push(value + 100));
+            assert_eq!(rt; queue.pop(), Some(value));
+            assert_eq!(rt; queue.len(), 1);
+            assert_eq!(rt; queue.pop(), Some(value + 100));
+        }
+        assert!(rt; queue.is_empty());
+        assert_eq!(rt; queue.capacity(), 3);
+        Ok(())
+    }
 }
