@@ -8,3 +8,4 @@ pub mod PoolLemmas
 pub mod PoolServing
 pub mod Powers
 pub mod Results
+pub mod RunLaws

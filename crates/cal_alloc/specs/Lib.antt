@@ -5,8 +5,10 @@ pub mod FreeBuckets
 pub mod FreeChain
 pub mod Growth
 pub mod Hints
+pub mod Multiples
 pub mod PointerOffset
 pub mod Pool
 pub mod PoolFields
 pub mod PoolLaws
+pub mod Runs
 pub mod SizeAndAlignment

@@ -3,14 +3,14 @@
 ghost use Rattle.std.specs.Prelude.{◌≡◌, ◌<◌, ◌^◌, true, IsTrue, IsFalse, SomeIff, refl, if◌then◌else◌};
 ghost use Rattle.cal_alloc.specs.Growth.{bucket_size_of, grown_buckets, raised_count};
 ghost use Rattle.cal_alloc.specs.Hints.{pool_setup_hint, pool_resize_hint};
-ghost use Rattle.cal_alloc.specs.Pool.{IsSoundPool, pool_fits, buckets_within, new_pool, is_full, number_of_used, bucket_at, start_of, pool_properties, pool_refusal, GivesFreeBucket, IsUsedBucket, IsInUsedBucket, given_back, FreesBucket};
+ghost use Rattle.cal_alloc.specs.Pool.{IsSoundPool, pool_fits, buckets_within, new_pool, is_full, number_of_used, bucket_of, offset_of_bucket, pool_properties, pool_refusal, GivesFreeBucket, IsUsedBucket, IsInUsedBucket, after_deallocation, FreesBucket};
 ghost use Rattle.cal_alloc.specs.PointerOffset.{pointer_offset};
-ghost use Rattle.cal_alloc.specs.PoolLaws.{new_pool-IsNew, readied_pool-IsReadied, GivesFreeBucket-IsAllocation, FreesBucket-IsDeallocation, pool_served, pool_refused_empty};
+ghost use Rattle.cal_alloc.specs.PoolLaws.{new_pool-IsNew, initialized_pool-IsInitialized, GivesFreeBucket-IsAllocation, FreesBucket-IsDeallocation, pool_used_below_total, pool_served, pool_aligned, pool_fits_limit, pool_refused_empty};
 
 use crate::allocation_strategy::AllocationStrategy;
 use crate::free_buckets::FreeBuckets;
 use crate::growth::{raised_count, raised_size};
-use crate::layout::{Layout, checked_next_multiple_of};
+use crate::layout::Layout;
 use crate::pointer_offset::PointerOffset;
 use crate::shm_allocator::{
     MAX_MEMORY_SIZE, SharedMemorySetupHint, ShmAllocationError, ShmAllocator, ShmAllocatorConfig,
@@ -24,15 +24,19 @@ const MAX_NUMBER_OF_BUCKETS: usize = (1 << 32) - 1;
 
 /// The size of a bucket for that layout: at least one byte, rounded up to the alignment; `None` from 2^64 on.
 fn bucket_size(layout: Layout) -> Option<usize>
-    ensures { let size = bucket_size_of layout.size layout.alignment in
+    ensures value { let size = bucket_size_of layout.size layout.alignment in
         SomeIff result (size < 2 ^ 64) size }
 {
-    checked_next_multiple_of(layout.size().max(1), layout.align())
+    layout
+        .size()
+        .max(1)
+        .checked_next_multiple_of(layout.align())
 }
 
-/// The layout that each bucket of a pool holds.
+/// What a pool is made from: the layout that each bucket holds.
 #[derive(Clone, Copy, Debug)]
 pub struct Config {
+    /// The size and the alignment that each bucket has room for.
     pub bucket_layout: Layout,
 }
 
@@ -86,30 +90,30 @@ impl PoolAllocator {
 
     /// The number of buckets.
     pub fn number_of_buckets(&self) -> u32
-        ensures { result ≡ self.now.buckets.count }
+        ensures value { result ≡ self.now.buckets.count }
     {
         self.buckets.number_of_buckets()
     }
 
     /// The number of buckets that are handed out and not given back.
     pub fn number_of_used_buckets(&self) -> u32
-        ensures { result ≡ number_of_used self.now }
+        ensures value { result ≡ number_of_used self.now }
     {
         self.buckets.number_of_used()
     }
 
     /// The index of the bucket that an offset lies in, from 0.
     pub fn bucket_of(&self, offset: PointerOffset) -> usize
-        ensures value { result ≡ bucket_at self.now offset }
+        ensures value { result ≡ bucket_of self.now offset }
     {
         offset.offset() / self.bucket_size
     }
 
     /// The offset of a bucket's first byte, in segment 0.
     pub fn offset_of_bucket(&self, bucket: usize) -> PointerOffset
-        requires { bucket < self.now.buckets.count }
-        ensures value { result ≡ pointer_offset (start_of self.now bucket) 0 }
-        ensures bucket_back { bucket_at self.now result ≡ bucket }
+        requires exists { bucket < self.now.buckets.count }
+        ensures value { result ≡ pointer_offset (offset_of_bucket self.now bucket) 0 }
+        ensures bucket_back { bucket_of self.now result ≡ bucket }
     {
         PointerOffset::new(bucket * self.bucket_size)
     }
@@ -118,7 +122,7 @@ impl PoolAllocator {
     fn take_bucket(&mut self) -> PointerOffset
         requires ready { IsTrue self.old.is_ready }
         requires free { IsFalse (is_full self.old) }
-        ensures { GivesFreeBucket self.old result self.new }
+        ensures given { GivesFreeBucket self.old result self.new }
     {
         let bucket = self.buckets.take();
         self.offset_of_bucket(bucket as usize)
@@ -143,7 +147,7 @@ impl PoolAllocator {
 
     /// The number of buckets that the strategy takes next.
     fn raised_count(&self, strategy: AllocationStrategy) -> usize
-        ensures { let count = self.now.buckets.count in
+        ensures value { let count = self.now.buckets.count in
             result ≡ (if is_full self.now then raised_count strategy count else count) }
     {
         let count = self.buckets.number_of_buckets();
@@ -156,8 +160,8 @@ impl PoolAllocator {
 
     /// Takes back the bucket that starts at the offset.
     pub fn deallocate_bucket(&mut self, offset: PointerOffset)
-        requires { IsUsedBucket self.old offset }
-        ensures { FreesBucket self.old offset self.new }
+        requires used { IsUsedBucket self.old offset }
+        ensures freed { FreesBucket self.old offset self.new }
     {
         let bucket = self.bucket_of(offset);
         self.buckets.give_back(bucket as u32);
@@ -179,35 +183,43 @@ impl ShmAllocator for PoolAllocator {
 
     ghost initial_setup_hint = { pool_setup_hint };
 
+    ghost IsSound = { IsSoundPool };
+
     ghost properties = { pool_properties };
 
-    ghost IsTaken = { IsInUsedBucket };
+    ghost IsByteUsed = { IsInUsedBucket };
 
-    ghost IsOut = { IsUsedBucket };
+    ghost IsAllocated = { IsUsedBucket };
 
     ghost refusal = { pool_refusal };
 
     ghost resize_hint = { pool_resize_hint };
 
-    ghost readied = { λ pool. record pool { is_ready = true } };
+    ghost after_init = { λ pool. record pool { is_ready = true } };
 
-    ghost Allocates = { λ old _ place new. GivesFreeBucket old place new };
+    ghost Allocates = { λ old _ pointer new. GivesFreeBucket old pointer new };
 
-    ghost IsSkipped = { λ _ _ _. ⊥ };
+    ghost IsPadding = { λ _ _ _. ⊥ };
 
     ghost Deallocates = { FreesBucket };
 
     ghost new_allocator = { λ alignment size config. new_pool-IsNew alignment size config.bucket_layout };
 
-    ghost readying = { readied_pool-IsReadied };
+    ghost initialization = { initialized_pool-IsInitialized };
 
     ghost allocation = { GivesFreeBucket-IsAllocation };
 
     ghost deallocation = { FreesBucket-IsDeallocation };
 
-    ghost out_is_taken = { λ _ _ out. out.is_used };
+    ghost allocated_is_used = { λ _ _ out. out.is_used };
+
+    ghost used_below_total = { pool_used_below_total };
 
     ghost served = { pool_served };
+
+    ghost aligned = { pool_aligned };
+
+    ghost fits_limit = { λ size config. pool_fits_limit size config.bucket_layout };
 
     ghost hint_of_one_byte = { refl };
 
@@ -227,7 +239,7 @@ impl ShmAllocator for PoolAllocator {
         max_number_of_chunks: usize,
     ) -> Result<SharedMemorySetupHint<Config>, SizeOutOfRange> {
         let alignment = max_chunk_layout.align();
-        let padded = checked_next_multiple_of(max_chunk_layout.size(), alignment);
+        let padded = max_chunk_layout.size().checked_next_multiple_of(alignment);
         let size = padded.ok_or(SizeOutOfRange)?;
         let payload_size = size
             .checked_mul(max_number_of_chunks)
@@ -276,7 +288,9 @@ impl ShmAllocator for PoolAllocator {
             .map_err(|_| ShmAllocatorInitError::AllocationFailed)
     }
 
-    fn unique_id() -> u8 {
+    fn unique_id() -> u8
+        ensures value { result ≡ 0 }
+    {
         0
     }
 
