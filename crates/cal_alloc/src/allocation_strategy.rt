@@ -1,3 +1,4 @@
+//! The strategies of growth. Ported from `shm_allocator/mod.rs` of iceoryx2-cal 0.9.3.
 ghost use Rattle.std.specs.Prelude.{◌≡◌};
 ghost use Rattle.cal_alloc.specs.declared.allocation_strategy.AllocationStrategy.TheVariants.{Static};
 

@@ -1,4 +1,6 @@
 //! The bump allocator hands its memory out from the front on, and takes nothing back.
+//!
+//! Ported from `shm_allocator/bump_allocator.rs` of iceoryx2-cal 0.9.3.
 
 ghost use Rattle.std.specs.Prelude.{◌≡◌, ◌≢◌, ◌<◌, ◌^◌, ◌*◌, ◌+◌, true, false, nat_le, IsErrOf, OnOk, OnErr, SomeIff, ◌↔◌, refl};
 ghost use Rattle.std.specs.Result.{result_ok};

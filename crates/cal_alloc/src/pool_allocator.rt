@@ -1,4 +1,6 @@
 //! The pool cuts its memory into equal buckets and hands each out whole.
+//!
+//! Ported from `shm_allocator/pool_allocator.rs` of iceoryx2-cal 0.9.3.
 
 ghost use Rattle.std.specs.Prelude.{◌≡◌, ◌<◌, ◌^◌, true, IsTrue, IsFalse, SomeIff, refl, if◌then◌else◌};
 ghost use Rattle.cal_alloc.specs.Growth.{bucket_size_of, grown_buckets, raised_count};

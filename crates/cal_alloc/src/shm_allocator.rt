@@ -2,6 +2,8 @@
 //! The layer above may rely on this: what is given out and not given back doesn't overlap, a refusal has its cause and
 //! changes nothing, giving a chunk back frees at most that chunk's own bytes, and memory that is set up as `resize_hint`
 //! proposes serves the layout that was asked for.
+//!
+//! Ported from `shm_allocator/mod.rs` of iceoryx2-cal 0.9.3.
 
 ghost use Rattle.std.specs.Prelude.{◌≡◌, ◌≢◌, ◌<◌, ◌≤◌, ◌%◌, ◌^◌, ℕ, true, Bool, Option, Some, None, IsTrue, IsFalse, OnOk, OnErr, IfOk, IsErrOf, IsSomeAnd, ◌↔◌};
 ghost use Rattle.std.specs.Int.{is_power_of_two};

@@ -10,7 +10,7 @@ use Rattle.std.proofs.lemmas.Nat.Bits.{bit_at-zero}
 use Rattle.cal_queue.specs.BitSet.{is_bit_set, has_bit, marks_of, IsBitSet}
 use Rattle.cal_queue.specs.FirstFrom.{IsFirst, IsFirstFrom}
 use Rattle.cal_queue.specs.UsedChunkMembers.{next_member-is}
-use Rattle.cal_queue.specs.UsedChunks.{UsedChunks, capacity_of, contains, next_member, inserted, removed}
+use Rattle.cal_queue.specs.UsedChunks.{UsedChunks, capacity_of, contains, next_member, after_insertion, after_removal}
 
 pub length-marks_of : (words : List ℕ) (capacity : ℕ) → length (marks_of words capacity) ≡ capacity
 length-marks_of words capacity = length-map (range_with_len 0 capacity) (has_bit words) ∙ length-range_with_len 0 capacity
@@ -147,26 +147,26 @@ module _ (words : List ℕ) (capacity : ℕ) (used : UsedChunks) (shown : Repres
   shown-next from number first = next_member-is used.marks from number (shown-first from number first)
 
   module _ (after : List ℕ) (number : ℕ) (below : number < capacity_of used) where
-    pub shown-inserted : ((k : ℕ) → has_bit after k ≡ (k == number || has_bit words k)) →
-        record { marks = marks_of after capacity } ≡ inserted used number
-    shown-inserted is_set =
+    pub shown-insertion : ((k : ℕ) → has_bit after k ≡ (k == number || has_bit words k)) →
+        record { marks = marks_of after capacity } ≡ after_insertion used number
+    shown-insertion is_set =
         ap (λ (marks : List Bool). record { marks = marks })
         (set-marks words after capacity number (omega (arith, shown-capacity)) is_set)
-        ∙ ap (λ (u : UsedChunks). inserted u number) shown.is
+        ∙ ap (λ (u : UsedChunks). after_insertion u number) shown.is
 
-    pub inserted-IsBitSet : ((k : ℕ) → has_bit after k ≡ (k == number || has_bit words k)) → length after ≡ length words →
+    pub insertion-IsBitSet : ((k : ℕ) → has_bit after k ≡ (k == number || has_bit words k)) → length after ≡ length words →
         IsBitSet after capacity
-    inserted-IsBitSet is_set same =
+    insertion-IsBitSet is_set same =
         set-IsBitSet words after capacity number (omega (arith, shown-capacity)) is_set shown.sound same
 
-    pub shown-removed : ((k : ℕ) → has_bit after k ≡ (not (k == number) && has_bit words k)) →
-        record { marks = marks_of after capacity } ≡ removed used number
-    shown-removed is_cleared =
+    pub shown-removal : ((k : ℕ) → has_bit after k ≡ (not (k == number) && has_bit words k)) →
+        record { marks = marks_of after capacity } ≡ after_removal used number
+    shown-removal is_cleared =
         ap (λ (marks : List Bool). record { marks = marks })
         (cleared-marks words after capacity number (omega (arith, shown-capacity)) is_cleared)
-        ∙ ap (λ (u : UsedChunks). removed u number) shown.is
+        ∙ ap (λ (u : UsedChunks). after_removal u number) shown.is
 
-    pub removed-IsBitSet : ((k : ℕ) → has_bit after k ≡ (not (k == number) && has_bit words k)) → length after ≡ length words →
+    pub removal-IsBitSet : ((k : ℕ) → has_bit after k ≡ (not (k == number) && has_bit words k)) → length after ≡ length words →
         IsBitSet after capacity
-    removed-IsBitSet is_cleared same =
+    removal-IsBitSet is_cleared same =
         cleared-IsBitSet words after capacity number (omega (arith, shown-capacity)) is_cleared shown.sound same

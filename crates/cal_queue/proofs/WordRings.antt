@@ -5,7 +5,7 @@ use Rattle.std.proofs.lemmas.List.{same_lists, drop_more, get_or_append_left, ge
 use Rattle.std.proofs.lemmas.Bool.{cases_lt}
 use Rattle.std.proofs.lemmas.Grind.{common_steps}
 use Rattle.std.specs.Vec.{with_item}
-use Rattle.cal_queue.specs.Queue.{Queue, pushed, popped}
+use Rattle.cal_queue.specs.Queue.{Queue, after_push, after_pop}
 use Rattle.cal_queue.specs.WordRing.{words_from, queue_of, IsRing}
 use Rattle.cal_queue.specs.declared.bounded_queue.BoundedQueue.TheInside.{Inside}
 
@@ -76,7 +76,7 @@ module _ (count read waiting : ℕ) (words : List ℕ) (within : read < count) (
 -- after a push
 pub queue_of-push : (a : Inside) (q : Queue) (write value : ℕ) → IsRing a → queue_of a ≡ q → length q.values < q.capacity →
     write ≡ (a.read + a.waiting) % length a.words.items →
-    queue_of (record a { words = with_item a.words write value; waiting = a.waiting + 1 }) ≡ pushed q value
+    queue_of (record a { words = with_item a.words write value; waiting = a.waiting + 1 }) ≡ after_push q value
 queue_of-push a q write value ring view_is room at_end =
     let words = a.words.items in
     let waits = length-words_from (length words) a.read a.waiting words ring.read ring.waiting refl in
@@ -86,15 +86,15 @@ queue_of-push a q write value ring view_is room at_end =
     let after : words_from a.read (a.waiting + 1) (set words write value) ≡ words_from a.read a.waiting words ++ value ∷ [] =
     ap (λ n. words_from a.read (a.waiting + 1) (set words n value)) at_end ∙ joined in
     ap₂ (λ vs n. record { values = vs; capacity = n }) after (length-set words write value)
-    ∙ ap (λ (m : Queue). pushed m value) view_is
+    ∙ ap (λ (m : Queue). after_push m value) view_is
 
 -- after a pop
 pub queue_of-pop : (a : Inside) (q : Queue) (next : ℕ) → IsRing a → queue_of a ≡ q → 0 < a.waiting →
     next ≡ (a.read + 1) % length a.words.items →
-    queue_of (record a { read = next; waiting = a.waiting - 1 }) ≡ popped q
+    queue_of (record a { read = next; waiting = a.waiting - 1 }) ≡ after_pop q
 queue_of-pop a q next ring view_is some after_read =
     let words = a.words.items in
     let split = words_from-pop (length words) a.read a.waiting words ring.read ring.waiting refl some in
     ap (λ n. record { values = words_from n (a.waiting - 1) words; capacity = length words }) after_read
     ∙ ap (λ vs. record { values = drop 1 vs; capacity = length words }) (sym split)
-    ∙ ap popped view_is
+    ∙ ap after_pop view_is

@@ -30,9 +30,9 @@ abbrev pub none_used : ℕ → UsedChunks
 none_used capacity = record { marks = replicate capacity false }
 
 -- the list with this number in use; all others stay
-abbrev pub inserted : UsedChunks → ℕ → UsedChunks
-inserted used value = record { marks = slice_set used.marks value true }
+abbrev pub after_insertion : UsedChunks → ℕ → UsedChunks
+after_insertion used value = record { marks = slice_set used.marks value true }
 
 -- the list with this number not in use; all others stay
-abbrev pub removed : UsedChunks → ℕ → UsedChunks
-removed used value = record { marks = slice_set used.marks value false }
+abbrev pub after_removal : UsedChunks → ℕ → UsedChunks
+after_removal used value = record { marks = slice_set used.marks value false }

@@ -1,7 +1,7 @@
 //! The body that the plain queues share: a ring of words, one for each value that may wait, all taken when it is made.
 //! A push and a pop touch one word each, and move no other value. No call after the first takes memory.
 ghost use Rattle.std.specs.Prelude.{◌≡◌, ◌≤◌, ◌<◌, ◌+◌, ◌%◌, length, IfOk};
-ghost use Rattle.cal_queue.specs.Queue.{IsBounded, empty, is_empty, is_full, oldest, popped, pushed};
+ghost use Rattle.cal_queue.specs.Queue.{IsBounded, empty, is_empty, is_full, oldest, after_pop, after_push};
 
 use std::alloc::{AllocError, Global};
 use std::marker::Model;
@@ -42,7 +42,7 @@ fn wrapped_index(index: usize, count: usize) -> usize
 impl BoundedQueue {
     /// An empty queue for that many values.
     pub(crate) fn new(alloc: Global, capacity: usize) -> Result<Self, AllocError>
-        requires { 1 ≤ capacity }
+        requires some { 1 ≤ capacity }
         ensures empty { IfOk result (λ q. q ≡ empty capacity) }
     {
         Ok(BoundedQueue {
@@ -54,8 +54,8 @@ impl BoundedQueue {
 
     /// Adds a value after all others.
     pub(crate) fn push(&mut self, value: u64)
-        requires { length self.old.values < self.old.capacity }
-        ensures joined { self.new ≡ pushed self.old value }
+        requires room { length self.old.values < self.old.capacity }
+        ensures joined { self.new ≡ after_push self.old value }
     {
         let write = wrapped_index(self.read + self.waiting, self.words.len());
         self.words[write] = value;
@@ -65,7 +65,7 @@ impl BoundedQueue {
     /// Takes the oldest value, if any waits.
     pub(crate) fn pop(&mut self) -> Option<u64>
         ensures oldest { result ≡ oldest self.old }
-        ensures left { self.new ≡ popped self.old }
+        ensures left { self.new ≡ after_pop self.old }
     {
         if self.waiting == 0 {
             return None;

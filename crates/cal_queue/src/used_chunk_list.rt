@@ -2,10 +2,12 @@
 //! on each call changing the number that it names and no other, and on `remove_all` and a walk by `next` meeting each number
 //! in use once, the lowest first. A call on one number touches one word of 64 bits, and a walk costs the words and the
 //! members.
+//!
+//! Ported from `zero_copy_connection/used_chunk_list.rs` of iceoryx2-cal 0.9.3.
 ghost use Rattle.std.specs.Prelude.{◌≡◌, ◌<◌, not, IfOk};
 ghost use Rattle.cal_queue.specs.BitSet.{marks_of, IsBitSet};
 ghost use Rattle.cal_queue.specs.Callback.{MayRunOver, RunsOver};
-ghost use Rattle.cal_queue.specs.UsedChunks.{capacity_of, contains, members, next_member, none_used, inserted, removed};
+ghost use Rattle.cal_queue.specs.UsedChunks.{capacity_of, contains, members, next_member, none_used, after_insertion, after_removal};
 ghost use Rattle.cal_queue.specs.FirstFrom.{IsFirstFrom};
 
 use crate::bit_set::{WORD_BITS, clear_all, clear_bit, first_from, has_bit, set_bit};
@@ -50,7 +52,7 @@ fn call_on_each<F: FnMut(usize)>(words: &[u64], capacity: usize, mut callback: F
 
 impl UsedChunkList {
     /// The empty set of numbers below `capacity`. All the memory that it ever needs is taken
-    /// here; the error is want of that memory.
+    /// here; the error is that it is out of memory.
     pub fn new(alloc: Global, capacity: usize) -> Result<Self, AllocError>
         ensures empty { IfOk result (λ list. list ≡ none_used capacity) }
     {
@@ -77,7 +79,7 @@ impl UsedChunkList {
 
     /// Whether a number is a member.
     pub fn contains(&self, value: usize) -> bool
-        requires { value < capacity_of self.now }
+        requires below { value < capacity_of self.now }
         ensures member { result ≡ contains self.now value }
     {
         has_bit(&self.words, value)
@@ -85,25 +87,25 @@ impl UsedChunkList {
 
     /// Makes a number a member, and answers whether it was none before.
     pub fn insert(&mut self, value: usize) -> bool
-        requires { value < capacity_of self.old }
+        requires below { value < capacity_of self.old }
         ensures was_absent { result ≡ not (contains self.old value) }
-        ensures now_present { self.new ≡ inserted self.old value }
+        ensures now_present { self.new ≡ after_insertion self.old value }
     {
         set_bit(&mut self.words, value)
     }
 
     /// Takes a number out, and answers whether it was a member before.
     pub fn remove(&mut self, value: usize) -> bool
-        requires { value < capacity_of self.old }
+        requires below { value < capacity_of self.old }
         ensures was_present { result ≡ contains self.old value }
-        ensures now_absent { self.new ≡ removed self.old value }
+        ensures now_absent { self.new ≡ after_removal self.old value }
     {
         clear_bit(&mut self.words, value)
     }
 
     /// Takes every member out, and calls the callback on each, the lowest first.
     pub fn remove_all<F: FnMut(usize)>(&mut self, callback: F)
-        requires { MayRunOver F.FnMut callback (members self.old) }
+        requires callable { MayRunOver F.FnMut callback (members self.old) }
         ensures called { RunsOver F.FnMut callback (members self.old) }
         ensures empty { self.new ≡ none_used (capacity_of self.old) }
     {

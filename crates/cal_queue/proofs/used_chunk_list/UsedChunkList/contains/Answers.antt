@@ -6,7 +6,7 @@ use Rattle.cal_queue.proofs.used_chunk_list.UsedChunkList.contains.Goals as goal
 pub has_bit-requires : goal.has_bit-requires
 has_bit-requires c =
     subst (λ words. c.args.value / 64 < length words) (sym c.deref.ensures.value)
-    (shown-has_word c.self.inside.words.items _ _ (record { sound = c.self.invariant; is = c.self.view_is }) c.args.value c.requires)
+    (shown-has_word c.self.inside.words.items _ _ (record { sound = c.self.invariant; is = c.self.view_is }) c.args.value c.requires.below)
 
 pub returns : goal.returns
 returns c = record {
