@@ -4,7 +4,7 @@ use Rattle.std.specs.Int.{next_multiple_of, is_power_of_two}
 use Rattle.std.specs.List.{list_all}
 use Rattle.std.proofs.lemmas.Bool.{cases_lt}
 use Rattle.std.proofs.Math.Nat.{mul-div_cancel_left, zero-div, zero-mul}
-use Rattle.cal_alloc.specs.Growth.{Buckets, bucket_size_of, fits_bucket, raised_count, raised_size, raised_buckets, grown_buckets, least_power_of_two}
+use Rattle.cal_alloc.specs.Growth.{SegmentLayout, bucket_size_of, fits_bucket, raised_count, raised_size, raised_buckets, grown_buckets, least_power_of_two}
 use Rattle.cal_alloc.specs.Hints.{is_in_range, pool_setup_hint, pool_resize_hint}
 use Rattle.cal_alloc.specs.Pool.{Pool, IsSoundPool, pool_fits, new_pool, is_full, pool_refusal}
 use Rattle.cal_alloc.specs.SizeAndAlignment.{SizeAndAlignment}
@@ -44,7 +44,7 @@ setup_hint_fits size alignment count payload power low small padded is_payload w
         rw (same, nothing, no_bucket) (all-true 0 alignment 0 (omega arith) low (omega arith))
 
 -- a row of buckets that serves a chunk of this size and alignment
-pub record Serves (buckets : Buckets) (size alignment : ℕ) : Type 0 where
+pub record Serves (buckets : SegmentLayout) (size alignment : ℕ) : Type 0 where
   pub not_empty : 0 < buckets.size
   pub large_enough : size ≤ buckets.size
   pub aligned : alignment ≤ buckets.alignment
@@ -52,7 +52,7 @@ pub record Serves (buckets : Buckets) (size alignment : ℕ) : Type 0 where
   pub padded : next_multiple_of buckets.size buckets.alignment ≡ buckets.size
 
 -- the row that is raised, by whether the chunk fits the old one's buckets
-abbrev row_if : AllocationStrategy → Buckets → Bool → ℕ → ℕ → Bool → Buckets
+abbrev row_if : AllocationStrategy → SegmentLayout → Bool → ℕ → ℕ → Bool → SegmentLayout
 row_if strategy old all_used size alignment fits = record {
   size = if fits then old.size else raised_size strategy (max old.size size) (max old.alignment alignment);
   alignment = max old.alignment alignment;
@@ -60,7 +60,7 @@ row_if strategy old all_used size alignment fits = record {
 }
 
 -- a row that is raised is one, where the strategy raises sizes and counts
-raised-Serves : (strategy : AllocationStrategy) (old : Buckets) (all_used : Bool) (size alignment : ℕ) → 0 < old.size → IsTrue (is_power_of_two old.alignment) → next_multiple_of old.size old.alignment ≡ old.size → (all_used ≡ false → 0 < old.count) → ((n a : ℕ) → 0 < a → n ≤ raised_size strategy n a) → ((n a : ℕ) → 0 < a → next_multiple_of (raised_size strategy n a) a ≡ raised_size strategy n a) → ((n : ℕ) → 0 < raised_count strategy n) → Serves (raised_buckets strategy old all_used size alignment) size alignment
+raised-Serves : (strategy : AllocationStrategy) (old : SegmentLayout) (all_used : Bool) (size alignment : ℕ) → 0 < old.size → IsTrue (is_power_of_two old.alignment) → next_multiple_of old.size old.alignment ≡ old.size → (all_used ≡ false → 0 < old.count) → ((n a : ℕ) → 0 < a → n ≤ raised_size strategy n a) → ((n a : ℕ) → 0 < a → next_multiple_of (raised_size strategy n a) a ≡ raised_size strategy n a) → ((n : ℕ) → 0 < raised_count strategy n) → Serves (raised_buckets strategy old all_used size alignment) size alignment
 raised-Serves strategy old all_used size alignment positive power padded some larger multiple more = from (fits_bucket old size alignment) refl
   where
     not_zero : 0 < max old.alignment alignment
@@ -93,7 +93,7 @@ raised-Serves strategy old all_used size alignment positive power padded some la
         }
 
 -- growth gives one
-pub grown_buckets-Serves : (strategy : AllocationStrategy) (old : Buckets) (all_used : Bool) (size alignment : ℕ) → strategy ≢ Static → 0 < old.size → IsTrue (is_power_of_two old.alignment) → next_multiple_of old.size old.alignment ≡ old.size → (all_used ≡ false → 0 < old.count) → Serves (grown_buckets strategy old all_used size alignment) size alignment
+pub grown_buckets-Serves : (strategy : AllocationStrategy) (old : SegmentLayout) (all_used : Bool) (size alignment : ℕ) → strategy ≢ Static → 0 < old.size → IsTrue (is_power_of_two old.alignment) → next_multiple_of old.size old.alignment ≡ old.size → (all_used ≡ false → 0 < old.count) → Serves (grown_buckets strategy old all_used size alignment) size alignment
 grown_buckets-Serves BestFit old all_used size alignment growing positive power padded some =
     raised-Serves BestFit old all_used size alignment positive power padded some (λ n a _. omega arith) (λ n a not_zero. next_multiple_of-twice n a not_zero) (λ n. omega arith)
 grown_buckets-Serves PowerOfTwo old all_used size alignment growing positive power padded some =
@@ -106,7 +106,7 @@ not_full zero some = absurd (omega arith)
 not_full (suc count) some = refl
 
 -- a new pool of such a row serves the chunk
-pub Serves-served : (buckets : Buckets) (memory_alignment : ℕ) (layout : SizeAndAlignment) → Serves buckets layout.size layout.alignment → pool_refusal (record { buckets = buckets; memory_alignment = memory_alignment; used = replicate buckets.count false; is_ready = true }) layout ≡ None
+pub Serves-served : (buckets : SegmentLayout) (memory_alignment : ℕ) (layout : SizeAndAlignment) → Serves buckets layout.size layout.alignment → pool_refusal (record { buckets = buckets; memory_alignment = memory_alignment; used = replicate buckets.count false; is_ready = true }) layout ≡ None
 Serves-served buckets memory_alignment layout serves =
     let free = not_full buckets.count serves.some in
     let large_enough = serves.large_enough in

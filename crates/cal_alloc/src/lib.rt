@@ -5,7 +5,9 @@
 
 mod allocation_strategy;
 pub mod bump_allocator;
+mod free_buckets;
 mod growth;
+pub mod laws;
 mod layout;
 mod pointer_offset;
 pub mod pool_allocator;

@@ -1,3 +1,5 @@
+pub mod BitMarks
+pub mod BitSets
 pub mod CompletionAllowed
 pub mod CompletionKeeps
 pub mod CompletionSchedules
@@ -12,3 +14,4 @@ pub mod SubmissionAllowed
 pub mod SubmissionKeeps
 pub mod SubmissionRuns
 pub mod TaggedPositions
+pub mod WordRings

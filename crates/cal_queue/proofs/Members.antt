@@ -4,29 +4,8 @@ use Rattle.std.proofs.lemmas.List.{same_lists, length-replicate, get_or-replicat
 use Rattle.std.specs.Fn.{Mut, Called}
 use Rattle.std.specs.List.{filter, range_with_len}
 use Rattle.cal_queue.specs.Callback.{LeadsTo, MayRunOver, RunsOver}
-use Rattle.cal_queue.specs.UsedChunks.{contains, members}
-
--- the members from a number on
-abbrev members_from : List Bool → ℕ → List ℕ
-members_from marks start = filter (contains (record { marks = marks })) (range_with_len start (length marks - start))
-
-members_from-next : (marks : List Bool) (start : ℕ) (b : Bool) → start < length marks → get_or marks start false ≡ b
-    → members_from marks start ≡ cond b (start ∷ members_from marks (start + 1)) (members_from marks (start + 1))
-members_from-next marks start b below is =
-    let test = contains (record { marks = marks }) in
-    let rest = members_from marks (start + 1) in
-    let count : length marks - start ≡ suc (length marks - (start + 1)) = omega arith in
-    ap (λ (n : ℕ). filter test (range_with_len start n)) count ∙ ap (λ (c : Bool). cond c (start ∷ rest) rest) is
-
-members_from-end : (marks : List Bool) (start : ℕ) → length marks ≤ start → members_from marks start ≡ []
-members_from-end marks start past =
-    let count : length marks - start ≡ 0 = omega arith in
-    ap (λ (n : ℕ). filter (contains (record { marks = marks })) (range_with_len start n)) count
-
-members_from-start : (marks : List Bool) → members (record { marks = marks }) ≡ members_from marks 0
-members_from-start marks =
-    let count : length marks ≡ length marks - 0 = omega arith in
-    ap (λ (n : ℕ). filter (contains (record { marks = marks })) (range_with_len 0 n)) count
+use Rattle.cal_queue.specs.UsedChunks.{contains, members, members_from}
+use Rattle.cal_queue.specs.UsedChunkMembers.{members_from-next, members_from-end, members_from-start, members_from-skip}
 
 module _ {F A : Type 0} (calls : Mut F (A × Unit {0}) (Unit {0})) (now : F) (x : A) (xs : List A) (may : MayRunOver calls now (x ∷ xs)) where
   -- the first of several calls may be made
@@ -43,8 +22,8 @@ module _ {F : Type 0} (calls : Mut F (ℕ × Unit {0}) (Unit {0})) (first : F) (
   -- a callback that began as `first` may be called at each member from `start` on, and these calls
   -- complete those at all members
   pub record IsOwed (now : F) (start : ℕ) : Type 0 where
-    pub callable : MayRunOver calls now (members_from marks start)
-    pub completes : (last : F) → LeadsTo calls now (members_from marks start) last
+    pub callable : MayRunOver calls now (members_from (record { marks = marks }) start)
+    pub completes : (last : F) → LeadsTo calls now (members_from (record { marks = marks }) start) last
         → LeadsTo calls first (members (record { marks = marks })) last
 
 module _ {F : Type 0} (calls : Mut F (ℕ × Unit {0}) (Unit {0})) (first : F) (marks : List Bool) where
@@ -79,6 +58,16 @@ module _ {F : Type 0} (calls : Mut F (ℕ × Unit {0}) (Unit {0})) (first : F) (
           callable = subst (λ (xs : List ℕ). MayRunOver calls now xs) next owed.callable;
           completes = λ last ran. owed.completes last (subst (λ (xs : List ℕ). LeadsTo calls now xs last) (sym next) ran);
         }
+
+-- numbers that aren't in use are owed no call
+module _ {F : Type 0} (calls : Mut F (ℕ × Unit {0}) (Unit {0})) (first : F) (marks : List Bool) (now : F) where
+  pub IsOwed-skip : (start end : ℕ) → start ≤ end → end ≤ length marks →
+      ((k : ℕ) → start ≤ k → k < end → get_or marks k false ≡ false) → IsOwed calls first marks now start → IsOwed calls first marks now end
+  IsOwed-skip start end up within none owed =
+      let same = members_from-skip marks start end up within none in record {
+        callable = subst (λ (xs : List ℕ). MayRunOver calls now xs) same owed.callable;
+        completes = λ last ran. owed.completes last (subst (λ (xs : List ℕ). LeadsTo calls now xs last) (sym same) ran);
+      }
 
 -- the marks below a place are cleared, and the others are as they were first
 pub record IsClearedBelow (first marks : List Bool) (end : ℕ) : Type 0 where

@@ -5,6 +5,7 @@
 //! done.
 #![tactic(auto)]
 
+mod bit_set;
 mod bounded_queue;
 pub mod completion_ring;
 pub mod fixed_size_used_chunk_list;
