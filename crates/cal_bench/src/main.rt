@@ -1,16 +1,20 @@
 //! Measures the submission ring: `cal_bench one COUNT` pushes and pops that many values on one thread, and
-//! `cal_bench two COUNT` sends them from one thread to another with overflow. Each prints the nanoseconds that it took.
+//! `cal_bench two COUNT` sends them from one thread to another with overflow. `cal_bench pool COUNT`, `queue` and `used`
+//! measure the plain containers: a chunk got and freed, a value pushed and popped, a number put in and taken out. Each
+//! prints the nanoseconds that it took.
 #![tactic(auto)]
 
 mod one_thread;
+mod plain_calls;
 mod two_threads;
 
+use crate::plain_calls::container_of;
 use anyhow::Result;
 use std::env;
 use std::rt::Env;
 use std::time::Instant;
 
-const USAGE: &str = "usage: cal_bench one COUNT | cal_bench two COUNT";
+const USAGE: &str = "usage: cal_bench (one | two | pool | queue | used) COUNT";
 
 /// Which measurement, and of how many values.
 #[derive(Clone, Copy)]
@@ -42,6 +46,13 @@ fn words_of<R: Env + AllocGlobal>(rt: &R) -> Result<Vec<String>> {
 
 fn main(rt: HostRuntime) -> Result<()> {
     let words = words_of(&rt)?;
+    if let Some((container, count)) = container_of(words.as_slice()) {
+        let start = Instant::now(&rt)?;
+        let done = container.call(rt.alloc(), count)?;
+        let nanoseconds = start.elapsed(&rt)?.as_nanos();
+        println!(rt; "{count} calls in {nanoseconds} ns: {done} done")?;
+        return Ok(());
+    }
     let Some(plan) = plan_of(words.as_slice()) else {
         println!(rt; "{USAGE}")?;
         return Ok(());

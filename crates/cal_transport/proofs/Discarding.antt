@@ -4,7 +4,7 @@ use Rattle.std.specs.List.{slice_get}
 use Rattle.std.proofs.lemmas.Bool.{cases_lt}
 use Rattle.std.proofs.lemmas.Bool.Decides.{nat_tests}
 use Rattle.std.proofs.lemmas.List.{get_or_past}
-use Rattle.cal_alloc.specs.Pool.{Pool, given_back, IsUsedBucket}
+use Rattle.cal_alloc.specs.Pool.{Pool, after_deallocation, IsUsedBucket}
 use Rattle.cal_alloc.specs.PointerOffset.{pointer_offset}
 use Rattle.cal_queue.specs.UsedChunks.{contains}
 use Rattle.cal_transport.specs.declared.entry.Entry.{Entry}
@@ -104,7 +104,7 @@ discarded_changes p w i chunk pool h stands loaned mark =
 
 pub discarded : (p : Parts) (name value : ℕ) (found : Found) (pool : Pool) → IsFound p.entries name found → found.entry.loaned ≡ true →
     value ≡ pointer_offset (found.entry.bucket * p.pool.buckets.size) 0 →
-    pool ≡ cond (contains p.used found.entry.bucket) p.pool (given_back p.pool value) →
+    pool ≡ cond (contains p.used found.entry.bucket) p.pool (after_deallocation p.pool value) →
     DoesAnywhere p (command.Discard name) Discarded (discarded_parts p found.index found.entry pool)
 discarded p name value found pool is loaned pointer freed place = done p (discarded_parts p found.index found.entry pool) place (command.Discard name) Discarded (λ w h.
     let c = found_chunk p w name found h is in
@@ -115,7 +115,7 @@ discarded p name value found pool is loaned pointer freed place = done p (discar
     let placed = h.placed found.index c.chunk c.stands in
     let mark : HasMark p.pool pool c.chunk.bucket (contains p.used c.chunk.bucket) =
     subst (λ q. HasMark p.pool q c.chunk.bucket (contains p.used c.chunk.bucket))
-    (sym (freed ∙ ap (λ b. cond (contains p.used b) p.pool (given_back p.pool value)) bucket))
+    (sym (freed ∙ ap (λ b. cond (contains p.used b) p.pool (after_deallocation p.pool value)) bucket))
     (kept_or_freed p.pool c.chunk.bucket value (contains p.used c.chunk.bucket) h.ready.size (let m = h.ready.marks in let b = placed.bucket in omega arith)
     housed.marked (pointer ∙ ap (λ b. pointer_offset (b * p.pool.buckets.size) 0) bucket)) in
     let new : Chunk = record c.chunk { loaned = false } in

@@ -7,7 +7,7 @@ use Rattle.std.proofs.lemmas.Bool.{cases_lt, true≢false}
 use Rattle.std.proofs.lemmas.Bool.Decides.{nat_tests}
 use Rattle.std.proofs.lemmas.Option.{slice_get_within}
 use Rattle.std.proofs.lemmas.List.{map-append, length-map, length-set, length-replicate, append-nil}
-use Rattle.cal_alloc.specs.Pool.{Pool, is_used, with_mark, pool_refusal, bucket_at, GivesFreeBucket}
+use Rattle.cal_alloc.specs.Pool.{Pool, is_used, with_mark, pool_refusal, bucket_of, GivesFreeBucket}
 use Rattle.cal_alloc.specs.PointerOffset.{pointer_offset, offset_of}
 use Rattle.cal_alloc.specs.SizeAndAlignment.{SizeAndAlignment}
 use Rattle.cal_alloc.specs.declared.shm_allocator.ShmAllocationError.{ShmAllocationError}
@@ -319,8 +319,8 @@ pub loaned_by : (p : Parts) (name size alignment : ℕ) (layout : SizeAndAlignme
     Does p name (command.Loan size alignment) (Loaned (record { chunk = name; segment = 0; place = place }))
     (record p { pool = pool; memory = memory; entries = entries; owners = owners; room = room })
 loaned_by p name size alignment layout value place bucket pool memory entries owners room below positive is good served gives at there cleared joined led =
-    let start : place ≡ bucket_at p.pool value * p.pool.buckets.size = at ∙ ap offset_of gives.at_start ∙ offset_of-pointer (bucket_at p.pool value * p.pool.buckets.size) in
-    let same : bucket ≡ bucket_at p.pool value = there ∙ ap (λ n. n / p.pool.buckets.size) start ∙ mul-div_cancel (bucket_at p.pool value) positive in
+    let start : place ≡ bucket_of p.pool value * p.pool.buckets.size = at ∙ ap offset_of gives.at_start ∙ offset_of-pointer (bucket_of p.pool value * p.pool.buckets.size) in
+    let same : bucket ≡ bucket_of p.pool value = there ∙ ap (λ n. n / p.pool.buckets.size) start ∙ mul-div_cancel (bucket_of p.pool value) positive in
     let start' : place ≡ bucket * p.pool.buckets.size = start ∙ ap (λ b. b * p.pool.buckets.size) (sym same) in
     let marked : pool ≡ with_mark p.pool bucket true = gives.after ∙ ap (λ b. with_mark p.pool b true) (sym same) in
     let step = loaned p name layout bucket place room below (ap (λ l. is_power_of_two l.alignment) is ∙ good) served

@@ -9,7 +9,7 @@ use Rattle.std.proofs.lemmas.Option.{none-some}
 use Rattle.std.proofs.lemmas.List.{length-replicate}
 use Rattle.std.specs.Option.{SomeIff}
 use Rattle.std.proofs.Math.Nat.{mul_comm, mul-div_cancel, mul-le-mul_left}
-use Rattle.cal_alloc.specs.Growth.{Buckets, padded_size, bucket_size_of}
+use Rattle.cal_alloc.specs.Growth.{SegmentLayout, padded_size, bucket_size_of}
 use Rattle.cal_alloc.specs.SizeAndAlignment.{SizeAndAlignment}
 use Rattle.cal_alloc.specs.Pool.{Pool, buckets_within, pool_fits, new_pool}
 use Rattle.cal_queue.specs.Queue.{Queue}
@@ -165,7 +165,7 @@ max_one n one = omega arith
 -- memory of the settings' payload is cut into the settings' buckets
 pub within_is : (s : Settings) → CanMake s → buckets_within (payload (first_buckets s)) (record { size = s.size; alignment = s.alignment }) ≡ first_buckets s
 within_is s can =
-    let B : ℕ → ℕ → Buckets = λ size count. record { size = size; alignment = s.alignment; count = count } in
+    let B : ℕ → ℕ → SegmentLayout = λ size count. record { size = size; alignment = s.alignment; count = count } in
     let size : bucket_size_of s.size s.alignment ≡ padded_size s.size s.alignment = ap (λ n. padded_size n s.alignment) (max_one s.size can.size) in
     let above : 1 ≤ padded_size s.size s.alignment = padded_above s.size s.alignment can.size in
     let count : payload (first_buckets s) / padded_size s.size s.alignment ≡ s.count =
@@ -184,7 +184,7 @@ pool_fits_settings s memory layout can m l =
     let small = bucket_small (padded_size s.size s.alignment) s.count can.count can.payload in
     go (payload (first_buckets s)) (buckets_within (payload (first_buckets s)) (record { size = s.size; alignment = s.alignment })) (first_buckets s) (within_is s can) whole small few))
   where
-    go : (whole : ℕ) (made first : Buckets) → made ≡ first → whole ≤ 2 ^ 56 → first.size ≤ 2 ^ 56 → first.count < 2 ^ 32 →
+    go : (whole : ℕ) (made first : SegmentLayout) → made ≡ first → whole ≤ 2 ^ 56 → first.size ≤ 2 ^ 56 → first.count < 2 ^ 32 →
         (nat_le whole (2 ^ 56) && (nat_lt made.size (2 ^ 64) && nat_lt made.count (2 ^ 32))) ≡ true
     go whole made first e a b c = subst (λ x. (nat_le whole (2 ^ 56) && (nat_lt x.size (2 ^ 64) && nat_lt x.count (2 ^ 32))) ≡ true) (sym e) (grind (arith, nat_tests))
 
@@ -192,7 +192,7 @@ pub pool_is_first : (s : Settings) (memory : ℕ) (layout : SizeAndAlignment) (m
     layout ≡ (record { size = s.size; alignment = s.alignment }) → made ≡ new_pool 4096 memory layout → ready ≡ (record made { is_ready = true }) →
     ready ≡ first_pool s
 pool_is_first s memory layout made ready can m l new done =
-    let P : Buckets → Pool = λ b. record { buckets = b; memory_alignment = 4096; used = replicate b.count false; is_ready = true } in
+    let P : SegmentLayout → Pool = λ b. record { buckets = b; memory_alignment = 4096; used = replicate b.count false; is_ready = true } in
     let R : Pool → Pool = λ q. record q { is_ready = true } in
     done ∙ ap R new
     ∙ ap (λ x. P (buckets_within x layout)) m

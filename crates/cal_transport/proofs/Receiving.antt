@@ -5,7 +5,7 @@ use Rattle.std.proofs.lemmas.Bool.{cases_lt, true≢false}
 use Rattle.std.proofs.lemmas.Option.{same_Some, none-some}
 use Rattle.std.proofs.lemmas.List.{append-nil}
 use Rattle.cal_alloc.specs.PointerOffset.{pointer_offset, offset_of}
-use Rattle.cal_queue.specs.Queue.{Queue, oldest, popped}
+use Rattle.cal_queue.specs.Queue.{Queue, oldest, after_pop}
 use Rattle.cal_transport.specs.declared.entry.Entry.{Entry}
 use Rattle.cal_transport.specs.declared.command.Command.TheVariants as command
 use Rattle.cal_transport.specs.declared.reply.Slot.{Slot}
@@ -130,7 +130,7 @@ slot_at p w names rest value index entry size h f e =
 
 abbrev pub received_parts : Parts → ℕ → Entry → Parts
 received_parts p i entry = record p {
-  submissions = popped p.submissions;
+  submissions = after_pop p.submissions;
   borrowed = p.borrowed + 1;
   entries = set p.entries i (record entry { borrowed = true });
 }
@@ -235,10 +235,10 @@ map_nothing f [] e = refl
 map_nothing f (x ∷ names) e = cc
 
 pub received_none : (p : Parts) (channel : ℕ) → receive_rule p channel ≡ None → slice_get p.submissions.values 0 ≡ None →
-    DoesAnywhere p (command.Receive channel) (Received None) (record p { submissions = popped p.submissions })
+    DoesAnywhere p (command.Receive channel) (Received None) (record p { submissions = after_pop p.submissions })
 received_none p channel rule first place =
     let empty = nothing_there p.submissions.values first in
-    let stays : popped p.submissions ≡ p.submissions =
+    let stays : after_pop p.submissions ≡ p.submissions =
     ap (λ vs. record p.submissions { values = drop 1 vs }) empty ∙ ap (λ vs. record p.submissions { values = vs }) (sym empty) in
     subst (λ q. Does p place (command.Receive channel) (Received None) (record p { submissions = q })) (sym stays)
     (done p p place (command.Receive channel) (Received None) (λ w h.
@@ -259,7 +259,7 @@ received_none p channel rule first place =
 -- the same, as the code has it: by what each call answered and left
 pub received_by : (p : Parts) (channel value index bucket at : ℕ) (entry : Entry) (submissions : Queue) → None ≡ receive_rule p channel →
     Some value ≡ oldest p.submissions → bucket ≡ offset_of value / p.pool.buckets.size →
-    slice_get p.owners bucket ≡ Some index → slice_get p.entries index ≡ Some entry → at ≡ offset_of value → submissions ≡ popped p.submissions →
+    slice_get p.owners bucket ≡ Some index → slice_get p.entries index ≡ Some entry → at ≡ offset_of value → submissions ≡ after_pop p.submissions →
     DoesAnywhere p (command.Receive channel) (Received (Some (record { chunk = entry.name; segment = 0; place = at })))
     (record (received_parts p index entry) { submissions = submissions })
 received_by p channel value index bucket at entry submissions rule first there owner stands placed left place =

@@ -2,10 +2,10 @@
 use Rattle.std.proofs.Common.{ℕ, ◌/◌, ◌<◌, ◌≤◌, ◌≡◌, Bool, true, false, cond, ◌||◌, nat_lt, List, [], ◌∷◌, drop, map, Some, None, refl, sym, ap, ◌∙◌, subst, arith, length-drop}
 use Rattle.std.specs.List.{slice_get}
 use Rattle.std.proofs.lemmas.List.{append-nil, length-set}
-use Rattle.cal_alloc.specs.Pool.{Pool, given_back, IsUsedBucket}
+use Rattle.cal_alloc.specs.Pool.{Pool, after_deallocation, IsUsedBucket}
 use Rattle.cal_alloc.specs.PointerOffset.{offset_of}
-use Rattle.cal_queue.specs.Queue.{Queue, oldest, popped}
-use Rattle.cal_queue.specs.UsedChunks.{UsedChunks, removed, capacity_of}
+use Rattle.cal_queue.specs.Queue.{Queue, oldest, after_pop}
+use Rattle.cal_queue.specs.UsedChunks.{UsedChunks, after_removal, capacity_of}
 use Rattle.cal_transport.specs.declared.entry.Entry.{Entry}
 use Rattle.cal_transport.specs.declared.command.Command.TheVariants as command
 use Rattle.cal_transport.specs.declared.reply.Slot.{Slot}
@@ -33,10 +33,10 @@ reclaim_cause_is : (p : Parts) (w : Shown) (channel : ℕ) → channel < p.setti
 reclaim_cause_is p w channel there = rw (le_false p.settings.channels channel there) refl
 
 pub reclaimed_none : (p : Parts) (channel : ℕ) → channel < p.settings.channels → slice_get p.completions.values 0 ≡ None →
-    DoesAnywhere p (command.Reclaim channel) (Reclaimed None) (record p { completions = popped p.completions })
+    DoesAnywhere p (command.Reclaim channel) (Reclaimed None) (record p { completions = after_pop p.completions })
 reclaimed_none p channel there first place =
     let empty = nothing_there p.completions.values first in
-    let stays : popped p.completions ≡ p.completions =
+    let stays : after_pop p.completions ≡ p.completions =
     ap (λ vs. record p.completions { values = drop 1 vs }) empty ∙ ap (λ vs. record p.completions { values = vs }) (sym empty) in
     subst (λ q. Does p place (command.Reclaim channel) (Reclaimed None) (record p { completions = q })) (sym stays)
     (done p p place (command.Reclaim channel) (Reclaimed None) (λ w h.
@@ -62,8 +62,8 @@ completion_front p w value h first = front_of p w (completed w.channel) p.comple
 
 abbrev pub reclaimed_parts : Parts → ℕ → Pool → Parts
 reclaimed_parts p bucket pool = record p {
-  completions = popped p.completions;
-  used = removed p.used bucket;
+  completions = after_pop p.completions;
+  used = after_removal p.used bucket;
   pool = pool;
 }
 
@@ -130,7 +130,7 @@ reclaimed_changes p w rest value pool h f mark =
 pub reclaimed_some : (p : Parts) (channel value index bucket : ℕ) (entry : Entry) (pool : Pool) → channel < p.settings.channels →
     slice_get p.completions.values 0 ≡ Some value → bucket ≡ offset_of value / p.pool.buckets.size →
     slice_get p.owners bucket ≡ Some index → slice_get p.entries index ≡ Some entry →
-    pool ≡ cond entry.loaned p.pool (given_back p.pool value) →
+    pool ≡ cond entry.loaned p.pool (after_deallocation p.pool value) →
     DoesAnywhere p (command.Reclaim channel) (Reclaimed (Some (record { chunk = entry.name; segment = 0; place = offset_of value }))) (reclaimed_parts p bucket pool)
 reclaimed_some p channel value index bucket entry pool there first at owner stands freed place =
     let slot : Slot = record { chunk = entry.name; segment = 0; place = offset_of value } in
@@ -144,7 +144,7 @@ reclaimed_some p channel value index bucket entry pool there first at owner stan
     let placed = h.placed f.index f.chunk f.stands in
     let loaned : entry.loaned ≡ f.chunk.loaned = ap (λ e. e.loaned) l.1 in
     let mark : HasMark p.pool pool f.chunk.bucket f.chunk.loaned =
-    subst (λ q. HasMark p.pool q f.chunk.bucket f.chunk.loaned) (sym (freed ∙ ap (λ b. cond b p.pool (given_back p.pool value)) loaned))
+    subst (λ q. HasMark p.pool q f.chunk.bucket f.chunk.loaned) (sym (freed ∙ ap (λ b. cond b p.pool (after_deallocation p.pool value)) loaned))
     (kept_or_freed p.pool f.chunk.bucket value f.chunk.loaned h.ready.size (let m = h.ready.marks in let b = placed.bucket in omega arith) housed.marked f.value_is) in
     let c' : Channel = reclaimed_from w.channel (Some f.chunk.name) in
     record {
@@ -164,14 +164,14 @@ reclaimed_some p channel value index bucket entry pool there first at owner stan
 -- the same, as the code has it: by what each call answered and left
 pub reclaimed_by : (p : Parts) (channel value index bucket at : ℕ) (entry : Entry) (completions : Queue) (used : UsedChunks) (pool : Pool) → channel < p.settings.channels →
     Some value ≡ oldest p.completions → bucket ≡ offset_of value / p.pool.buckets.size →
-    slice_get p.owners bucket ≡ Some index → slice_get p.entries index ≡ Some entry → at ≡ offset_of value → completions ≡ popped p.completions →
-    used ≡ removed p.used bucket → pool ≡ cond entry.loaned p.pool (given_back p.pool value) →
+    slice_get p.owners bucket ≡ Some index → slice_get p.entries index ≡ Some entry → at ≡ offset_of value → completions ≡ after_pop p.completions →
+    used ≡ after_removal p.used bucket → pool ≡ cond entry.loaned p.pool (after_deallocation p.pool value) →
     DoesAnywhere p (command.Reclaim channel) (Reclaimed (Some (record { chunk = entry.name; segment = 0; place = at })))
     (record p { completions = completions; used = used; pool = pool })
 reclaimed_by p channel value index bucket at entry completions used pool there first spot owner stands placed left marked freed place =
     let Q : ℕ → Queue → UsedChunks → Type 0 = λ a q u. Does p place (command.Reclaim channel) (Reclaimed (Some (record { chunk = entry.name; segment = 0; place = a })))
     (record p { completions = q; used = u; pool = pool }) in
-    subst (λ a. Q a completions used) (sym placed) (subst (λ q. Q (offset_of value) q used) (sym left) (subst (Q (offset_of value) (popped p.completions)) (sym marked)
+    subst (λ a. Q a completions used) (sym placed) (subst (λ q. Q (offset_of value) q used) (sym left) (subst (Q (offset_of value) (after_pop p.completions)) (sym marked)
     (reclaimed_some p channel value index bucket entry pool there (sym first) spot owner stands freed place)))
 
 -- what the code asks of the pointer that the queue gives: it leads to an entry, and names a used bucket

@@ -6,7 +6,7 @@ use Rattle.std.specs.Bool.{OnTrue}
 use Rattle.std.proofs.lemmas.Bool.Decides.{nat_tests}
 use Rattle.std.proofs.lemmas.List.{map-append, length-map}
 use Rattle.cal_alloc.specs.PointerOffset.{pointer_offset}
-use Rattle.cal_queue.specs.Queue.{Queue, is_full, pushed}
+use Rattle.cal_queue.specs.Queue.{Queue, is_full, after_push}
 use Rattle.cal_transport.specs.declared.entry.Entry.{Entry}
 use Rattle.cal_transport.specs.declared.entry.Found.{Found}
 use Rattle.cal_transport.specs.declared.command.Command.TheVariants as command
@@ -86,7 +86,7 @@ may_release p entry rule = go entry.borrowed (is_full p.completions) refl refl r
 
 abbrev pub released_parts : Parts → ℕ → Entry → Parts
 released_parts p i entry = record p {
-  completions = pushed p.completions (pointer_offset (entry.bucket * p.pool.buckets.size) 0);
+  completions = after_push p.completions (pointer_offset (entry.bucket * p.pool.buckets.size) 0);
   borrowed = p.borrowed - 1;
   entries = set p.entries i (record entry { borrowed = false });
 }
@@ -180,15 +180,15 @@ borrows_some p w name found h is borrowed =
 -- the same, as the code has it: by what each call left
 pub released_by : (p : Parts) (channel name : ℕ) (found : Found) (value : ℕ) (completions : Queue) → channel < p.settings.channels → IsFound p.entries name found →
     None ≡ release_rule p found.entry → value ≡ pointer_offset (found.entry.bucket * p.pool.buckets.size) 0 →
-    completions ≡ pushed p.completions value →
+    completions ≡ after_push p.completions value →
     DoesAnywhere p (command.Release channel name) Released (record (released_parts p found.index found.entry) { completions = completions })
 released_by p channel name found value completions there is rule pointer left place =
     let Q : Queue → Type 0 = λ q. Does p place (command.Release channel name) Released (record (released_parts p found.index found.entry) { completions = q }) in
-    subst Q (sym (left ∙ ap (pushed p.completions) pointer)) (released p channel name found there is (sym rule) place)
+    subst Q (sym (left ∙ ap (after_push p.completions) pointer)) (released p channel name found there is (sym rule) place)
 
 -- a push that has room joins
 pub release_joins : (joined : Bool) (old new : Queue) (value : ℕ) (p : Parts) (entry : Entry) → None ≡ release_rule p entry →
-    joined ≡ not (is_full p.completions) → OnTrue joined (new ≡ pushed p.completions value) → new ≡ pushed p.completions value
+    joined ≡ not (is_full p.completions) → OnTrue joined (new ≡ after_push p.completions value) → new ≡ after_push p.completions value
 release_joins true old new value p entry rule room e = e
 release_joins false old new value p entry rule room e = (let may = may_release p entry (sym rule) in
     absurd (true≢false (sym (room ∙ ap not may.room))))

@@ -5,8 +5,8 @@ use Rattle.std.proofs.lemmas.Bool.{cases_lt, true≢false}
 use Rattle.std.proofs.lemmas.Bool.Decides.{nat_tests}
 use Rattle.std.proofs.lemmas.List.{append-nil, map-append, length-map, length-set}
 use Rattle.cal_alloc.specs.PointerOffset.{pointer_offset}
-use Rattle.cal_queue.specs.Queue.{Queue, is_full, pushed, with_room}
-use Rattle.cal_queue.specs.UsedChunks.{UsedChunks, contains, inserted, capacity_of}
+use Rattle.cal_queue.specs.Queue.{Queue, is_full, after_push, with_room}
+use Rattle.cal_queue.specs.UsedChunks.{UsedChunks, contains, after_insertion, capacity_of}
 use Rattle.cal_transport.specs.declared.entry.Entry.{Entry}
 use Rattle.cal_transport.specs.declared.entry.Found.{Found}
 use Rattle.cal_transport.specs.declared.command.Command.TheVariants as command
@@ -125,8 +125,8 @@ may_send p channel entry rule =
 -- the parts after a send
 abbrev pub sent_parts : Parts → ℕ → Entry → Parts
 sent_parts p i entry = record p {
-  submissions = pushed (with_room p.submissions) (pointer_offset (entry.bucket * p.pool.buckets.size) 0);
-  used = inserted p.used entry.bucket;
+  submissions = after_push (with_room p.submissions) (pointer_offset (entry.bucket * p.pool.buckets.size) 0);
+  used = after_insertion p.used entry.bucket;
   entries = set p.entries i (record entry { sent = true });
 }
 
@@ -227,11 +227,11 @@ sent p channel name found is rule place = done p (sent_parts p found.index found
 -- the same, as the code has it: by what each call left
 pub sent_by : (p : Parts) (channel name : ℕ) (found : Found) (value : ℕ) (submissions : Queue) (used : UsedChunks) → IsFound p.entries name found →
     None ≡ send_rule p channel found.entry → value ≡ pointer_offset (found.entry.bucket * p.pool.buckets.size) 0 →
-    submissions ≡ pushed (with_room p.submissions) value → used ≡ inserted p.used found.entry.bucket →
+    submissions ≡ after_push (with_room p.submissions) value → used ≡ after_insertion p.used found.entry.bucket →
     DoesAnywhere p (command.Send channel name) (Sent None) (record (sent_parts p found.index found.entry) { submissions = submissions; used = used })
 sent_by p channel name found value submissions used is rule pointer left marked place =
     let Q : Queue → UsedChunks → Type 0 = λ q u. Does p place (command.Send channel name) (Sent None)
     (record (sent_parts p found.index found.entry) { submissions = q; used = u }) in
-    subst (λ q. Q q used) (sym (left ∙ ap (pushed (with_room p.submissions)) pointer))
-    (subst (Q (pushed (with_room p.submissions) (pointer_offset (found.entry.bucket * p.pool.buckets.size) 0))) (sym marked)
+    subst (λ q. Q q used) (sym (left ∙ ap (after_push (with_room p.submissions)) pointer))
+    (subst (Q (after_push (with_room p.submissions) (pointer_offset (found.entry.bucket * p.pool.buckets.size) 0))) (sym marked)
     (sent p channel name found is (sym rule) place))

@@ -3,7 +3,7 @@ use Rattle.std.specs.Prelude.{ℕ, ◌+◌, Bool, true, false, not, ◌&&◌, �
 use Rattle.std.specs.Int.{is_power_of_two}
 use Rattle.cal_alloc.specs.declared.allocation_strategy.AllocationStrategy.{AllocationStrategy}
 use Rattle.cal_alloc.specs.declared.allocation_strategy.AllocationStrategy.TheVariants.{BestFit, PowerOfTwo, Static}
-use Rattle.cal_alloc.specs.Growth.{Buckets, fits_bucket, grown_buckets}
+use Rattle.cal_alloc.specs.Growth.{SegmentLayout, fits_bucket, grown_buckets}
 use Rattle.cal_transport.specs.declared.command.Command.{Command}
 use Rattle.cal_transport.specs.declared.command.Command.TheVariants as command
 use Rattle.cal_transport.specs.declared.reply.Refusal.{Refusal}
@@ -32,7 +32,7 @@ needs_segment l size alignment =
     is_power_of_two alignment && not (is_static l.settings.strategy) && not (serves l size alignment)
 
 -- the segment that a loan makes where the current one doesn't serve it
-abbrev pub next_segment : Ledger → ℕ → ℕ → Buckets
+abbrev pub next_segment : Ledger → ℕ → ℕ → SegmentLayout
 next_segment l size alignment =
     grown_buckets l.settings.strategy (buckets_at l (current l)) (is_full l) size alignment
 
@@ -45,7 +45,7 @@ static_cause l size alignment =
     else None
 
 -- a memory that grows can't take the next segment
-abbrev pub growth_cause : Ledger → Buckets → Option Refusal
+abbrev pub growth_cause : Ledger → SegmentLayout → Option Refusal
 growth_cause l next =
     if current l == 255 then Some MaxReallocationsReached
     else if is_too_large next then Some SizeOutOfRange

@@ -1,7 +1,7 @@
 -- The chunk ledger: what was ever loaned, sent, received, given back and reclaimed, and what follows from it.
 use Rattle.std.specs.Prelude.{ℕ, zero, suc, ◌+◌, ◌-◌, Bool, not, ◌&&◌, ◌||◌, ◌==◌, nat_lt, if◌then◌else◌, List, [], ◌∷◌, ◌++◌, length, drop, filter, find, replicate, slice_index_or, Option, Some, None, option_to_list}
 use Rattle.std.specs.List.{list_any}
-use Rattle.cal_alloc.specs.Growth.{Buckets}
+use Rattle.cal_alloc.specs.Growth.{SegmentLayout}
 use Rattle.cal_transport.specs.declared.settings.Settings.{Settings}
 use Rattle.cal_transport.specs.Settings.{clamped, first_buckets}
 
@@ -30,7 +30,7 @@ pub record Channel : Type 0 where
 -- and the segment that the receiver's view opened last
 pub record Ledger : Type 0 where
   pub settings : Settings
-  pub segments : List Buckets
+  pub segments : List SegmentLayout
   pub chunks : List Chunk
   pub channels : List Channel
   pub shown : Option ℕ
@@ -96,7 +96,7 @@ abbrev pub channel_at : Ledger → ℕ → Channel
 channel_at l channel = slice_index_or l.channels channel new_channel
 
 -- the buckets of a segment; one that isn't there has none
-abbrev pub buckets_at : Ledger → ℕ → Buckets
+abbrev pub buckets_at : Ledger → ℕ → SegmentLayout
 buckets_at l segment = slice_index_or l.segments segment (record { size = 0; alignment = 0; count = 0 })
 
 -- the number of the segment that loans are served from

@@ -1,7 +1,7 @@
 -- Settings as they count, and why a transport can't be made with them.
 use Rattle.std.specs.Prelude.{ℕ, ◌+◌, ◌*◌, ◌^◌, ◌<◌, ◌≤◌, ◌≡◌, max, Bool, true, not, ◌||◌, ◌==◌, nat_lt, nat_le, if◌then◌else◌, Option, Some, None}
 use Rattle.std.specs.Int.{is_power_of_two}
-use Rattle.cal_alloc.specs.Growth.{Buckets, padded_size}
+use Rattle.cal_alloc.specs.Growth.{SegmentLayout, padded_size}
 use Rattle.cal_transport.specs.declared.settings.Settings.{Settings}
 use Rattle.cal_transport.specs.declared.settings.CreateCause.{CreateCause}
 use Rattle.cal_transport.specs.declared.settings.CreateCause.TheVariants.{BadLayout, SizeOutOfRange, SizeIsZero, InternalError}
@@ -17,7 +17,7 @@ clamped s = record s {
 }
 
 -- the first segment's buckets
-abbrev pub first_buckets : Settings → Buckets
+abbrev pub first_buckets : Settings → SegmentLayout
 first_buckets s = record { size = padded_size s.size s.alignment; alignment = s.alignment; count = s.count }
 
 -- how many chunks the completion queue of a channel holds
@@ -25,11 +25,11 @@ abbrev pub completion_size : Settings → ℕ
 completion_size s = s.buffer + s.borrow + 1
 
 -- the bytes of a segment of these buckets
-abbrev pub payload : Buckets → ℕ
+abbrev pub payload : SegmentLayout → ℕ
 payload buckets = buckets.size * buckets.count
 
 -- a segment of these buckets is larger than any can be
-abbrev pub is_too_large : Buckets → Bool
+abbrev pub is_too_large : SegmentLayout → Bool
 is_too_large buckets = nat_lt (2 ^ 56) (payload buckets) || nat_le (2 ^ 32) buckets.count
 
 -- a connection with these settings is larger than any can be

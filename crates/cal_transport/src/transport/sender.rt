@@ -2,7 +2,7 @@
 
 ghost use Rattle.std.specs.Prelude.{◌≡◌, ◌<◌, ◌≤◌, ◌+◌, nat_lt, length, if◌then◌else◌};
 ghost use Rattle.cal_queue.specs.UsedChunks.{contains};
-ghost use Rattle.cal_alloc.specs.Pool.{IsUsedBucket, given_back};
+ghost use Rattle.cal_alloc.specs.Pool.{IsUsedBucket, after_deallocation};
 ghost use Rattle.cal_transport.specs.Entry.{AreBelow};
 ghost use Rattle.cal_transport.specs.Rules.{write_rule, send_rule, IsPools, refusal_of, LoanDoes, WriteDoes, SendDoes, ReclaimDoes, DiscardDoes};
 
@@ -196,7 +196,7 @@ pub(crate) fn passes_end(size: usize, at: usize, length: usize) -> bool
 /// Gives a bucket back, unless its chunk is kept.
 fn give_back_unless(pool: &mut PoolAllocator, kept: bool, pointer: PointerOffset)
     requires used { IsUsedBucket pool.old pointer }
-    ensures freed { pool.new ≡ (if kept then pool.old else given_back pool.old pointer) }
+    ensures freed { pool.new ≡ (if kept then pool.old else after_deallocation pool.old pointer) }
 {
     if !kept {
         pool.deallocate_bucket(pointer);
