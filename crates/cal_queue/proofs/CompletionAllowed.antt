@@ -108,6 +108,7 @@ module _ (capacity slots seat : ℕ) (me : End) where
         settled = record {
           got_first = W.got_first;
           read_within = W.read_within;
+          room = let room = W.room in let sized = sound.fits.putter_fits.sized in omega arith;
           completed = subst (λ (c : ℕ). IsCompleted c me.0.writer.put (length me.0.reader.got)) (sym sound.fits.putter_fits.sized) sound.reached;
         };
       })

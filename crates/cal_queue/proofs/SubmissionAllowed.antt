@@ -171,6 +171,8 @@ module _ (buffer slots seat : ℕ) (me : End) where
           record {
             read_position = shows.1.words_fit.read_position;
             read_within = shows.1.words_fit.read_within;
+            room = λ none_due. let room = shows.1.sender_fits.room none_due in
+                let sized = shows.1.sender_fits.sized in omega arith;
             returned_overflowed = shows.1.sender_fits.returned_overflowed;
             received_tagged = shows.1.taker_fits.received_tagged;
             submitted = subst (λ (b : ℕ). IsSubmitted b send.sent shows.0) (sym shows.1.sender_fits.sized) shows.2;

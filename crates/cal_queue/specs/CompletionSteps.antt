@@ -43,6 +43,7 @@ StoresRead step me position me' = me' ≡ with_reader me (stored_read me.0.reade
 pub record IsSettled (putter : PutPass) (getter : GetPass) : Type 0 where
   pub got_first : getter.got ≡ take (length getter.got) putter.put
   pub read_within : length getter.got ≤ length putter.put
+  pub room : length putter.put ≤ length getter.got + putter.capacity
   pub completed : IsCompleted putter.capacity putter.put (length getter.got)
 
 pub record Settles (step : Step (Unit {0})) (me : End) (position : ℕ) (me' : End) : Type 0 where

@@ -1,6 +1,6 @@
 -- What each step on the table of a submission ring tells the end that makes it: its own new pass, and of the other end no
 -- more than that a position is at most, or at least, some number.
-use Rattle.std.specs.Prelude.{◌≡◌, ◌≢◌, ℕ, ◌+◌, ◌<◌, ◌≤◌, List, length, Some}
+use Rattle.std.specs.Prelude.{◌≡◌, ◌≢◌, ℕ, ◌+◌, ◌<◌, ◌≤◌, false, List, length, Some}
 use Rattle.atomic_table.specs.Table.{Me, Step}
 use Rattle.cal_queue.specs.Channel.{Tag, received, overflowed, tagged_from}
 use Rattle.cal_queue.specs.Sides.{with_writer, with_reader}
@@ -54,6 +54,7 @@ Takes step me position me' =
 pub record IsSettled (send : SendPass) (take : TakePass) (position : ℕ) (tags : List Tag) : Type 0 where
   pub read_position : position ≡ length tags
   pub read_within : length tags ≤ length send.sent
+  pub room : send.exchange_due ≡ false → length send.sent ≤ length tags + send.buffer
   pub returned_overflowed : send.returned ≡ tagged_from overflowed 0 tags send.sent
   pub received_tagged : take.received ≡ tagged_from received 0 tags send.sent
   pub submitted : IsSubmitted send.buffer send.sent tags

@@ -96,6 +96,7 @@ pub fn rest(send: SendSeat, take: TakeSeat) -> RingRest
     ensures received { result.received ≡ length (take_pass take).received }
     ensures returned { result.returned ≡ length (send_pass send).returned }
     ensures adds_up { result.sent ≡ result.received + result.returned + result.left }
+    ensures within { result.left ≤ (send_pass send).buffer }
     ensures spread { IsSpread (send_pass send).sent (take_pass take).received (send_pass send).returned }
     ensures scheduled { IsScheduled (send_pass send) (take_pass take) }
 {

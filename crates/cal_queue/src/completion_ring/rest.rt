@@ -1,5 +1,5 @@
 //! A ring at rest: both ends come together, and their counts are compared.
-ghost use Rattle.std.specs.Prelude.{◌≡◌, ◌+◌, length, take};
+ghost use Rattle.std.specs.Prelude.{◌≡◌, ◌+◌, ◌≤◌, length, take};
 ghost use Rattle.cal_queue.specs.CompletionCalls.{AreEndsOfOneRing, get_pass, put_pass};
 ghost use Rattle.cal_queue.specs.CompletionRule.{IsCompleted};
 
@@ -21,6 +21,7 @@ pub fn rest_completion(put: PutSeat, get: GetSeat) -> CompletionRest
     ensures put { result.put ≡ length (put_pass put).put }
     ensures got { result.got ≡ length (get_pass get).got }
     ensures left { result.got + result.left ≡ result.put }
+    ensures within { result.left ≤ (put_pass put).capacity }
     ensures got_first { (get_pass get).got ≡ take result.got (put_pass put).put }
     ensures completed { IsCompleted (put_pass put).capacity (put_pass put).put result.got }
 {

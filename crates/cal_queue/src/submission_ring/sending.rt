@@ -83,8 +83,9 @@ impl SendSeat {
             ⊎ (IsTrue overflow × SeesFull (send_pass self.old) (send_pass self.new) × LosesExchange (send_pass self.old) (send_pass self.new)))) }
         ensures refused { OnErr result (SameLists (send_pass self.old) (send_pass self.new)) }
         ensures taken_with_overflow { IsTrue overflow → length (send_pass self.old).sent < 2 ^ 64 - 1 → IsOk result }
-        ensures full { result ≡ Err Full → IsFalse overflow × SeesFull (send_pass self.old) (send_pass self.new) }
+        ensures full { result ≡ Err Full → IsFalse overflow × SeesFull (send_pass self.old) (send_pass self.new) × LoadsOnce (send_pass self.old) (send_pass self.new) }
         ensures used_up { (result ≡ Err PositionsUsedUp) ↔ (length (send_pass self.old).sent ≡ 2 ^ 64 - 1) }
+        ensures untouched { result ≡ Err PositionsUsedUp → send_pass self.new ≡ send_pass self.old }
     {
         if is_used_up(self.written) {
             return Err(PushRefusal::PositionsUsedUp);

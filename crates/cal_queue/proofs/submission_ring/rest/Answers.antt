@@ -46,6 +46,14 @@ returns-clause-adds_up c =
     let by_sender = send.counted in
     let by_taker = c.args.take.counted in omega arith
 
+pub returns-clause-within : goal.returns-clause-within
+returns-clause-within c =
+    let told = settled c in
+    let send = c.args.send in
+    let room = told.1.room send.nothing_due in
+    let position = told.1.read_position in
+    let counted = send.counted in omega arith
+
 pub returns-clause-spread : goal.returns-clause-spread
 returns-clause-spread c =
     let told = settled c in
