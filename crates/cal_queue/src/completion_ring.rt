@@ -54,12 +54,14 @@ impl CompletionRing {
             seat,
             capacity,
             written: 0,
+            index: 0,
         };
         let get = GetSeat {
             table: shared,
             seat: other,
             capacity,
             read: 0,
+            index: 0,
         };
         Ok((put, get))
     }

@@ -13,6 +13,7 @@ mod marks;
 mod positions;
 pub mod push_refusal;
 pub mod reserve_refusal;
+mod ring_words;
 pub mod safely_overflowing_index_queue;
 mod sided;
 pub mod state_table;

@@ -9,7 +9,6 @@ ghost use Rattle.cal_queue.specs.SubmissionCalls.{send_pass, take_pass, IsOneRin
 
 mod interleavings;
 mod pass;
-mod place;
 mod plays;
 mod rule;
 mod send_seat;
@@ -21,11 +20,12 @@ mod taking;
 #[cfg(test)]
 mod tests;
 
+use crate::ring_words::{FIRST_SLOT, READ_POSITION};
 use crate::sided::Parting;
 pub use interleavings::every_interleaving_is_a_schedule;
 pub use pass::{SendPass, TakePass};
 use plays::Settle;
-use rule::{FIRST_SLOT, Meeting, READ_POSITION, RingTable};
+use rule::{Meeting, RingTable};
 pub use send_seat::SendSeat;
 use std::alloc::{AllocError, Global};
 use std::sync::Arc;
@@ -74,7 +74,7 @@ impl SubmissionRing {
             buffer,
             written: 0,
             returned: 0,
-            place: 0,
+            index: 0,
             copy,
         };
         let take = TakeSeat {
@@ -83,7 +83,7 @@ impl SubmissionRing {
             buffer,
             received: 0,
             next: 0,
-            place: 0,
+            index: 0,
         };
         Ok((send, take))
     }
@@ -106,7 +106,7 @@ pub fn rest(send: SendSeat, take: TakeSeat) -> RingRest
         buffer: _,
         written,
         returned,
-        place: _,
+        index: _,
         copy: _,
     } = send;
     let TakeSeat {
@@ -115,7 +115,7 @@ pub fn rest(send: SendSeat, take: TakeSeat) -> RingRest
         buffer: _,
         received,
         next: _,
-        place: _,
+        index: _,
     } = take;
     table.shared.join_seat::<Meeting>(&mut seat, other);
     let read = table.shared.load::<Settle>(&mut seat, READ_POSITION);

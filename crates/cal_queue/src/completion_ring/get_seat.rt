@@ -1,5 +1,5 @@
 //! The getting end, and what it keeps between two calls.
-ghost use Rattle.std.specs.Prelude.{◌≡◌, ◌+◌, ◌^◌, ◌<◌, ◌≤◌, true, [], length};
+ghost use Rattle.std.specs.Prelude.{◌≡◌, ◌+◌, ◌%◌, ◌^◌, ◌<◌, ◌≤◌, true, [], length};
 ghost use Rattle.std.specs.Arc.{arc_value};
 
 use super::rule::{RingSeat, RingTable};
@@ -14,10 +14,13 @@ pub struct GetSeat {
     pub(super) capacity: u64,
     // The read position, which only this end moves.
     pub(super) read: u64,
+    // The index of its slot.
+    pub(super) index: usize,
     ghost seated: { seat.table_id ≡ (arc_value table).shared.table_id },
     ghost sized: { ((arc_value table).shared.table_id.words ≡ capacity + 2) × ((arc_value table).shared.key ≡ capacity) },
     ghost some_room: { (1 ≤ capacity) × (capacity < 2 ^ 32) },
     ghost gets: { (seat.me.0.reads ≡ true) × (seat.me.0.reader.capacity ≡ capacity) },
     ghost empty_handed: { seat.me.1 ≡ [] },
     ghost counted: { read ≡ length seat.me.0.reader.got },
+    ghost indexed: { index ≡ read % capacity },
 }

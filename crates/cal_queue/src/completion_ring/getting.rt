@@ -3,7 +3,7 @@ ghost use Rattle.std.specs.Prelude.{◌≡◌, ◌+◌, ◌-◌, ◌^◌, ◌<�
 
 use super::get_seat::GetSeat;
 use super::get_steps::{load_write, take};
-use super::putting::slot_of;
+use crate::ring_words::{FIRST_SLOT, next_index};
 
 impl GetSeat {
     ghost use Rattle.cal_queue.specs.CompletionPass.{loaded_slot, loaded_write, stored_read};
@@ -24,8 +24,9 @@ impl GetSeat {
         ensures same_end { SameGetEnd self.old self.new }
         ensures got { get_pass self.new ≡ stored_read (loaded_slot result (get_pass self.old)) }
     {
-        let slot = slot_of(self.capacity, self.read);
+        let slot = FIRST_SLOT + self.index;
         let value = take(&self.table, &mut self.seat, slot, self.read);
+        self.index = next_index(self.index, self.capacity);
         self.read += 1;
         value
     }

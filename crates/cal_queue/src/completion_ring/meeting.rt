@@ -3,7 +3,8 @@ ghost use Rattle.std.specs.Prelude.{◌≡◌, ◌+◌, true, false, []};
 ghost use Rattle.cal_queue.specs.CompletionSteps.{IsSettled};
 
 use super::plays::Settle;
-use super::rule::{Meeting, READ_POSITION, RingSeat, RingTable};
+use super::rule::{Meeting, RingSeat, RingTable};
+use crate::ring_words::READ_POSITION;
 use crate::sided::Parting;
 
 // The seat that has both sides keeps the putting side, and a new seat has the getting side.

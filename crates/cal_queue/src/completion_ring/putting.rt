@@ -1,19 +1,11 @@
 //! The call of the putting end: one load and two stores, which take no memory and wait for nobody.
 ghost use Rattle.std.specs.Prelude.{◌≡◌, ◌+◌, ◌-◌, ◌^◌, ◌<◌, ◌≤◌, ◌↔◌, length, OnErr, OnOk, Err};
-ghost use Rattle.cal_queue.specs.CompletionRule.{slot_of};
 
 use super::put_seat::PutSeat;
 use super::put_steps::{append, load_read};
 use crate::positions::is_used_up;
 use crate::push_refusal::PushRefusal;
-
-// The word of a position's slot.
-pub(super) fn slot_of(capacity: u64, position: u64) -> usize
-    requires { (1 ≤ capacity) × (capacity < 2 ^ 32) }
-    ensures { result ≡ slot_of capacity position }
-{
-    (position % capacity) as usize + 2
-}
+use crate::ring_words::{FIRST_SLOT, next_index};
 
 impl PutSeat {
     ghost use Rattle.cal_queue.specs.CompletionPass.{loaded_read, stored_slot, stored_write};
@@ -36,8 +28,9 @@ impl PutSeat {
         ensures same_end { SamePutEnd self.old self.new }
         ensures put { put_pass self.new ≡ stored_write (stored_slot value (put_pass self.old)) }
     {
-        let slot = slot_of(self.capacity, self.written);
+        let slot = FIRST_SLOT + self.index;
         append(&self.table, &mut self.seat, slot, self.written, value);
+        self.index = next_index(self.index, self.capacity);
         self.written += 1;
     }
 

@@ -5,10 +5,6 @@ use crate::sided::Sided;
 use atomic_table::{Join, Seat, Table, TableRule};
 use std::alloc::Global;
 
-pub(super) const READ_POSITION: usize = 0;
-
-pub(super) const WRITE_POSITION: usize = 1;
-
 pub(crate) type RingView = Sided<PutPass, GetPass>;
 
 pub(crate) type RingSeat = Seat<(), RingView>;

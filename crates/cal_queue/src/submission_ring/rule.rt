@@ -11,13 +11,6 @@ pub(crate) type RingTable = Table<(), RingView, u64, SubmissionRule, Global>;
 
 pub(crate) type RingSeat = Seat<(), RingView>;
 
-// The words of the table: the two positions, and then the slots.
-pub(super) const READ_POSITION: usize = 0;
-
-pub(super) const WRITE_POSITION: usize = 1;
-
-pub(super) const FIRST_SLOT: usize = 2;
-
 // The key is how many values the ring keeps between two calls.
 pub(crate) struct SubmissionRule;
 

@@ -17,8 +17,8 @@ pub struct SendSeat {
     // The write position, which only this end moves, and how many values came back.
     pub(super) written: u64,
     pub(super) returned: u64,
-    // The place of the write position, in the copy and among the slots.
-    pub(super) place: usize,
+    // The index of the write position's slot, which is its index in the copy too.
+    pub(super) index: usize,
     // The last values sent, one more than the buffer, so that the oldest comes back without a look at its slot.
     pub(super) copy: Vec<u64>,
     ghost seated: { seat.table_id ≡ (arc_value table).shared.table_id },
@@ -27,6 +27,6 @@ pub struct SendSeat {
     ghost nothing_due: { seat.me.0.writer.exchange_due ≡ false },
     ghost nothing_to_send: { seat.me.0.writer.to_send ≡ None } by { Prim.hlevel props },
     ghost counted: { (written ≡ length seat.me.0.writer.sent) × (returned ≡ length seat.me.0.writer.returned) },
-    ghost placed: { place ≡ written % (buffer + 1) },
+    ghost indexed: { index ≡ written % (buffer + 1) },
     ghost copied: { KeepsLast buffer seat.me.0.writer.sent copy.items },
 }

@@ -7,7 +7,8 @@ ghost use Rattle.cal_queue.specs.SubmissionPass.{loaded_read, stored_slot, store
 ghost use Rattle.cal_queue.specs.SubmissionRule.{slot_of};
 
 use super::plays::{Displace, LoadRead, StoreSlot, StoreWrite};
-use super::rule::{READ_POSITION, RingSeat, RingTable, WRITE_POSITION};
+use super::rule::{RingSeat, RingTable};
+use crate::ring_words::{READ_POSITION, WRITE_POSITION};
 
 pub(super) fn load_read(table: &RingTable, seat: &mut RingSeat) -> u64
     requires seated { seat.old.table_id ≡ table.now.shared.table_id }

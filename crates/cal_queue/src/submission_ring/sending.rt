@@ -2,12 +2,11 @@
 //! nobody.
 ghost use Rattle.std.specs.Prelude.{◌≡◌, ◌+◌, ◌-◌, ◌%◌, ◌^◌, ◌<◌, ◌≤◌, ◌↔◌, ◌⊎◌, [], ◌∷◌, ◌++◌, length, IsTrue, IsFalse, IfSome, IfNone, IfOk, IsOk, OnOk, OnErr, slice_get, Some, None, Ok, Err};
 
-use super::place::next_place;
-use super::rule::FIRST_SLOT;
 use super::send_seat::SendSeat;
 use super::sender_steps::{append, displace, load_read};
 use crate::positions::is_used_up;
 use crate::push_refusal::PushRefusal;
+use crate::ring_words::{FIRST_SLOT, next_index};
 
 impl SendSeat {
     ghost use Rattle.cal_queue.specs.SubmissionPass.{loaded_read, stored_slot, stored_write};
@@ -33,12 +32,12 @@ impl SendSeat {
         append(
             &self.table,
             &mut self.seat,
-            FIRST_SLOT + self.place,
+            FIRST_SLOT + self.index,
             self.written,
             value,
         );
-        self.copy[self.place] = value;
-        self.place = next_place(self.place, self.buffer);
+        self.copy[self.index] = value;
+        self.index = next_index(self.index, self.buffer + 1);
         self.written += 1;
     }
 
@@ -57,18 +56,18 @@ impl SendSeat {
         append(
             &self.table,
             &mut self.seat,
-            FIRST_SLOT + self.place,
+            FIRST_SLOT + self.index,
             self.written,
             value,
         );
-        self.copy[self.place] = value;
-        self.place = next_place(self.place, self.buffer);
+        self.copy[self.index] = value;
+        self.index = next_index(self.index, self.buffer + 1);
         self.written += 1;
         if !displace(&self.table, &mut self.seat, read) {
             return None;
         }
         self.returned += 1;
-        Some(self.copy[self.place])
+        Some(self.copy[self.index])
     }
 
     /// Sends a value behind all others. With `overflow` a full ring takes it too, and its oldest value comes back, unless

@@ -14,13 +14,13 @@ pub struct TakeSeat {
     pub(super) buffer: u64,
     // How many values were received.
     pub(super) received: u64,
-    // The position behind the last one that was taken, and its place among the slots.
+    // The position after the last one that was taken, and the index of its slot.
     pub(super) next: u64,
-    pub(super) place: usize,
+    pub(super) index: usize,
     ghost seated: { seat.table_id ≡ (arc_value table).shared.table_id },
     ghost sized: { ((arc_value table).shared.table_id.words ≡ buffer + 3) × ((arc_value table).shared.key ≡ buffer) × (buffer < 2 ^ 32) },
     ghost takes: { (seat.me.0.reads ≡ true) × (seat.me.0.reader.buffer ≡ buffer) },
     ghost empty_handed: { seat.me.1 ≡ [] },
     ghost counted: { received ≡ length seat.me.0.reader.received },
-    ghost placed: { place ≡ next % (buffer + 1) },
+    ghost indexed: { index ≡ next % (buffer + 1) },
 }

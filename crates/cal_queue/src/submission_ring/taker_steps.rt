@@ -5,7 +5,8 @@ ghost use Rattle.cal_queue.specs.SubmissionPass.{looked_at_read, looked_at_write
 ghost use Rattle.cal_queue.specs.SubmissionRule.{slot_of};
 
 use super::plays::{LookAtRead, LookAtSlot, LookAtWrite, Take};
-use super::rule::{READ_POSITION, RingSeat, RingTable, WRITE_POSITION};
+use super::rule::{RingSeat, RingTable};
+use crate::ring_words::{READ_POSITION, WRITE_POSITION};
 
 /// Loads the read position, and then the write position.
 pub(super) fn load_positions(table: &RingTable, seat: &mut RingSeat) -> (u64, u64)

@@ -1,10 +1,9 @@
 //! The calls of the taking end. Each turn of a pop is three loads and an exchange, and takes no memory.
 ghost use Rattle.std.specs.Prelude.{◌≡◌, ◌+◌, ◌%◌, ◌<◌, ◌≤◌, ◌↔◌, [], ◌∷◌, ◌++◌, length, IsTrue, IsFalse, IfSome, IfNone, Some, None};
 
-use super::place::next_place;
-use super::rule::FIRST_SLOT;
 use super::take_seat::TakeSeat;
 use super::taker_steps::{load_positions, take};
+use crate::ring_words::{FIRST_SLOT, next_index};
 use std::sync::Wait;
 
 impl TakeSeat {
@@ -19,12 +18,12 @@ impl TakeSeat {
         load_positions(&self.table, &mut self.seat)
     }
 
-    // The place of a position, without a division where no value overflowed since the last one was taken.
-    fn place_of(&self, position: u64) -> usize
+    // The index of a position's slot, without a division where no value overflowed since the last one was taken.
+    fn index_of(&self, position: u64) -> usize
         ensures { result ≡ position % ((take_pass self.now).buffer + 1) }
     {
         if position == self.next {
-            self.place
+            self.index
         } else {
             (position % (self.buffer + 1)) as usize
         }
@@ -38,17 +37,17 @@ impl TakeSeat {
         ensures taken { IfSome result (λ value. take_pass self.new ≡ took value (take_pass self.old)) }
         ensures lost { IfNone result (take_pass self.new ≡ missed (take_pass self.old)) }
     {
-        let place = self.place_of(read);
+        let index = self.index_of(read);
         let value = take(
             &self.table,
             &mut self.seat,
-            FIRST_SLOT + place,
+            FIRST_SLOT + index,
             read,
             written,
         )?;
         self.received += 1;
         self.next = read + 1;
-        self.place = next_place(place, self.buffer);
+        self.index = next_index(index, self.buffer + 1);
         Some(value)
     }
 

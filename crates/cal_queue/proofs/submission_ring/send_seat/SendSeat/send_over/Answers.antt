@@ -3,7 +3,7 @@ use Rattle.cal_queue.specs.Sides.{with_writer}
 use Rattle.cal_queue.specs.SubmissionCopy.{KeepsLast}
 use Rattle.cal_queue.specs.SubmissionPass.{won_exchange, lost_exchange}
 use Rattle.cal_queue.specs.SubmissionSteps.{End}
-use Rattle.cal_queue.proofs.LastValues.{KeepsLast-more, oldest-read, place-next}
+use Rattle.cal_queue.proofs.LastValues.{KeepsLast-more, oldest-read}
 use Rattle.cal_queue.proofs.submission_ring.send_seat.SendSeat.send_over.Goals as goal
 
 pub invariant_of-self : goal.invariant_of-self
@@ -15,15 +15,15 @@ invariant_of-self c =
     let long = length-append sent (c.args.value ∷ []) in
     let grown = ap (λ (m : End). length m.0.writer.sent) lost in
     let counted = self.counted in
-    let here = self.placed ∙ ap (λ (k : ℕ). k % (self.buffer + 1)) self.counted.0 in record {
+    let here = self.indexed ∙ ap (λ (k : ℕ). k % (self.buffer + 1)) self.counted.0 in record {
       seated = c.displace.ensures.seated ∙ c.append.ensures.seated ∙ self.seated;
       sized = self.sized;
       sends = (ap (λ (m : End). m.0.writes) lost ∙ self.sends.0, ap (λ (m : End). m.0.writer.buffer) lost ∙ self.sends.1);
       nothing_due = ap (λ (m : End). m.0.writer.exchange_due) lost;
       nothing_to_send = ap (λ (m : End). m.0.writer.to_send) lost;
       counted = (omega arith, self.counted.1 ∙ sym (ap (λ (m : End). length m.0.writer.returned) lost));
-      placed = place-next self.written self.buffer self.place _ self.placed c.next_place-self.ensures.wraps c.next_place-self.ensures.follows;
-      copied = subst (λ (l : List ℕ). KeepsLast self.buffer l (set self.copy.items self.place c.args.value)) (sym (ap (λ (m : End). m.0.writer.sent) lost)) (KeepsLast-more self.buffer sent self.copy.items self.place c.args.value self.copied here);
+      indexed = c.next_index-self.ensures.next self.written self.indexed;
+      copied = subst (λ (l : List ℕ). KeepsLast self.buffer l (set self.copy.items self.index c.args.value)) (sym (ap (λ (m : End). m.0.writer.sent) lost)) (KeepsLast-more self.buffer sent self.copy.items self.index c.args.value self.copied here);
     }
 
 pub invariant_of-self-2 : goal.invariant_of-self-2
@@ -38,15 +38,15 @@ invariant_of-self-2 c =
     let more = ap (λ (m : End). length m.0.writer.returned) won in
     let one = length-append returned ((self.seat.me.0.writer.seen_read, get_or (sent ++ c.args.value ∷ []) self.seat.me.0.writer.seen_read 0) ∷ []) in
     let counted = self.counted in
-    let here = self.placed ∙ ap (λ (k : ℕ). k % (self.buffer + 1)) self.counted.0 in record {
+    let here = self.indexed ∙ ap (λ (k : ℕ). k % (self.buffer + 1)) self.counted.0 in record {
       seated = c.displace.ensures.seated ∙ c.append.ensures.seated ∙ self.seated;
       sized = self.sized;
       sends = (ap (λ (m : End). m.0.writes) won ∙ self.sends.0, ap (λ (m : End). m.0.writer.buffer) won ∙ self.sends.1);
       nothing_due = ap (λ (m : End). m.0.writer.exchange_due) won;
       nothing_to_send = ap (λ (m : End). m.0.writer.to_send) won;
       counted = (omega arith, omega arith);
-      placed = place-next self.written self.buffer self.place _ self.placed c.next_place-self.ensures.wraps c.next_place-self.ensures.follows;
-      copied = subst (λ (l : List ℕ). KeepsLast self.buffer l (set self.copy.items self.place c.args.value)) (sym (ap (λ (m : End). m.0.writer.sent) won)) (KeepsLast-more self.buffer sent self.copy.items self.place c.args.value self.copied here);
+      indexed = c.next_index-self.ensures.next self.written self.indexed;
+      copied = subst (λ (l : List ℕ). KeepsLast self.buffer l (set self.copy.items self.index c.args.value)) (sym (ap (λ (m : End). m.0.writer.sent) won)) (KeepsLast-more self.buffer sent self.copy.items self.index c.args.value self.copied here);
     }
 
 pub returns-clause-back : goal.returns-clause-back
@@ -56,10 +56,10 @@ returns-clause-back c =
     let value = c.args.value in
     let sent : List ℕ = before.sent ++ value ∷ [] in
     let won = c.if-not-displace.ensures.won ∙ ap (λ (m : End). with_writer m (won_exchange m.0.writer)) c.append.ensures.appended in
-    let here = self.placed ∙ ap (λ (k : ℕ). k % (self.buffer + 1)) self.counted.0 in
-    let next = place-next self.written self.buffer self.place _ self.placed c.next_place-self.ensures.wraps c.next_place-self.ensures.follows ∙ ap (λ (k : ℕ). (k + 1) % (self.buffer + 1)) self.counted.0 in
+    let here = self.indexed ∙ ap (λ (k : ℕ). k % (self.buffer + 1)) self.counted.0 in
+    let next = c.next_index-self.ensures.next self.written self.indexed ∙ ap (λ (k : ℕ). (k + 1) % (self.buffer + 1)) self.counted.0 in
     let full = c.requires.full ∙ ap (λ (k : ℕ). before.seen_read + k) self.sends.1 in
-    let oldest = oldest-read self.buffer before.sent self.copy.items self.place c.next_place-self.result before.seen_read value c.index.result.now self.copied here next full c.index.ensures in
+    let oldest = oldest-read self.buffer before.sent self.copy.items self.index c.next_index-self.result before.seen_read value c.index.result.now self.copied here next full c.index.ensures in
     let seen = ap (λ (m : End). m.0.writer.seen_read) won in (
       ap (λ (m : End). m.0.writer.returned) won ∙ ap (λ (e : ℕ × ℕ). before.returned ++ e ∷ []) (λ i. (sym seen i, sym oldest.0 i)),
       ap (λ (m : End). slice_get m.0.writer.sent m.0.writer.seen_read) won ∙ oldest.1,
