@@ -1,6 +1,6 @@
 pub mod CompletionAllowed
 pub mod CompletionKeeps
-pub mod CompletionSchedules
+pub mod CompletionRuns
 pub mod LastValues
 pub mod Members
 pub mod OneSideEach

@@ -8,7 +8,7 @@ use lib.ListN.{get_elem?}
 use Rattle.atomic_table.specs.Table.{State}
 use Rattle.atomic_table.proofs.Lists.{at_set, set_here, set_else, at_longer, at_last}
 use Rattle.cal_queue.specs.declared.sided.Sided.{Sided}
-use Rattle.cal_queue.specs.Sides.{HasTwoSides, both_sides, joined}
+use Rattle.cal_queue.specs.Sides.{HasTwoSides, both_sides, joined_sides}
 
 -- what is at a place is within the list
 at_within : {A : Type 0} (l : List A) (j : ℕ) (a : A) → get_elem? l j ≡ some a → j < length l
@@ -141,10 +141,10 @@ module _ {S P Q : Type 0} (Sound : List ℕ → P → Q → Type 0) where
         }
 
   module _ (s : State S (Sided P Q)) (h : HasTwoSides Sound s) (seat other : ℕ) (v w gone : Sided P Q) (at : get_elem? s.views seat ≡ some v) (writes : v.writes ≡ true)
-      (apart : ¬ (other ≡ seat)) (there : get_elem? (set s.views seat (joined v w)) other ≡ some w) (reads : w.reads ≡ true) (no_writes : gone.writes ≡ false) (no_reads : gone.reads ≡ false) where
-    -- the seat of the writing side takes the reading side in, and the other seat's view is spent
-    pub joins : HasTwoSides Sound (record { words = s.words; homes = s.homes; views = set (set s.views seat (joined v w)) other gone })
-    joins = let both = joined v w in
+      (apart : ¬ (other ≡ seat)) (there : get_elem? (set s.views seat (joined_sides v w)) other ≡ some w) (reads : w.reads ≡ true) (no_writes : gone.writes ≡ false) (no_reads : gone.reads ≡ false) where
+    -- the seat of the writing side takes the reading side in, and the other seat's view is spent_sides
+    pub joins : HasTwoSides Sound (record { words = s.words; homes = s.homes; views = set (set s.views seat (joined_sides v w)) other gone })
+    joins = let both = joined_sides v w in
         let half = set s.views seat both in
         let at_other = sym (set_else s.views seat other both apart) ∙ there in
         let mine = h.only_writer seat v at writes in

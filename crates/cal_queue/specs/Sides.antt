@@ -12,15 +12,15 @@ module _ {P Q : Type 0} where
   both_sides p q = record { writes = true; reads = true; writer = p; reader = q }
 
   -- the writing side of one view and the reading side of another
-  abbrev pub joined : Sided P Q → Sided P Q → Sided P Q
-  joined v w = both_sides v.writer w.reader
+  abbrev pub joined_sides : Sided P Q → Sided P Q → Sided P Q
+  joined_sides v w = both_sides v.writer w.reader
 
   -- no side is in hand, and the passes count for nothing
-  abbrev pub spent : P → Q → Sided P Q
-  spent p q = record { writes = false; reads = false; writer = p; reader = q }
+  abbrev pub spent_sides : P → Q → Sided P Q
+  spent_sides p q = record { writes = false; reads = false; writer = p; reader = q }
 
   -- One seat has the writing side with its pass, and one seat the reading side with its pass; they may be one seat. The
-  -- words and the two passes meet `Sound`. A view with no flag is spent, and nothing is said of it
+  -- words and the two passes meet `Sound`. A view with no flag is spent_sides, and nothing is said of it
   pub record HasTwoSides {S : Type 0} (Sound : List ℕ → P → Q → Type 0) (s : State S (Sided P Q)) : Type 0 where
     pub writing_seat : ℕ
     pub reading_seat : ℕ

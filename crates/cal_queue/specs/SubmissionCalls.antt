@@ -1,8 +1,8 @@
 -- What the calls of a submission ring's two ends do, as a caller of one end knows it: by the pass of that end, which only
 -- its own steps change. Counters of the pass tell that a position was loaded in this call, and not before.
 use Rattle.std.specs.Prelude.{◌≡◌, ℕ, ◌+◌, ◌<◌, List, [], ◌∷◌, ◌++◌, length, slice_get, Some}
-use Rattle.cal_queue.specs.Channel.{Tag, received, overflowed, tagged_from}
-use Rattle.cal_queue.specs.SubmissionPass.{loaded_read, looked_at_read, looked_at_write}
+use Rattle.cal_queue.specs.RingState.{Tag, received, overflowed, tagged_positions}
+use Rattle.cal_queue.specs.SubmissionPass.{after_read_load, after_read_look, after_write_look}
 use Rattle.cal_queue.specs.SubmissionRule.{IsSubmitted}
 use Rattle.cal_queue.specs.declared.submission_ring.pass.SendPass.{SendPass}
 use Rattle.cal_queue.specs.declared.submission_ring.pass.TakePass.{TakePass}
@@ -30,11 +30,11 @@ SameTakeEnd old new = (new.seat.table_id ≡ old.seat.table_id) × ((take_pass n
 
 -- nothing was sent and nothing came back
 abbrev pub SameLists : SendPass → SendPass → Type 0
-SameLists old new = (new.sent ≡ old.sent) × (new.returned ≡ old.returned)
+SameLists old new = (new.sent ≡ old.sent) × (new.overflowed ≡ old.overflowed)
 
 -- the read position was loaded once, and nothing else was done
 abbrev pub LoadsOnce : SendPass → SendPass → Type 0
-LoadsOnce old new = new ≡ loaded_read new.seen_read old
+LoadsOnce old new = new ≡ after_read_load new.seen_read old
 
 -- the read position was loaded once meanwhile, and as many values waited then as the buffer holds
 abbrev pub SeesFull : SendPass → SendPass → Type 0
@@ -49,14 +49,14 @@ abbrev pub LosesExchange : SendPass → SendPass → Type 0
 LosesExchange old new = new.lost_exchanges ≡ old.lost_exchanges + 1
 
 -- the position that was loaded came back, once, with the value that was sent there
-abbrev pub ComesBack : ℕ → SendPass → SendPass → Type 0
-ComesBack value old new = (new.returned ≡ old.returned ++ (new.seen_read, value) ∷ []) × (slice_get new.sent new.seen_read ≡ Some value)
+abbrev pub Overflows : ℕ → SendPass → SendPass → Type 0
+Overflows value old new = (new.overflowed ≡ old.overflowed ++ (new.seen_read, value) ∷ []) × (slice_get new.sent new.seen_read ≡ Some value)
 
 -- ---- the taker
 
 -- the read position was loaded once and then the write position, and nothing else was done
 abbrev pub LooksOnce : TakePass → TakePass → Type 0
-LooksOnce old new = (written : ℕ) × (new ≡ looked_at_write written (looked_at_read new.seen_read old))
+LooksOnce old new = (written : ℕ) × (new ≡ after_write_look written (after_read_look new.seen_read old))
 
 -- both positions were loaded meanwhile, and the write position was found where the read position had been before
 abbrev pub SeesEmpty : TakePass → TakePass → Type 0
@@ -67,4 +67,4 @@ SeesEmpty old new = (old.read_loads < new.read_loads) × (old.write_loads < new.
 -- a schedule of the channel leads to these lists
 abbrev pub IsScheduled : SendPass → TakePass → Type 0
 IsScheduled send take = (tags : List Tag) × IsSubmitted send.buffer send.sent tags
-    × (send.returned ≡ tagged_from overflowed 0 tags send.sent) × (take.received ≡ tagged_from received 0 tags send.sent)
+    × (send.overflowed ≡ tagged_positions overflowed 0 tags send.sent) × (take.received ≡ tagged_positions received 0 tags send.sent)

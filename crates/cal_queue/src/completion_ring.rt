@@ -3,7 +3,7 @@
 //! put, each once, on no call waiting for the other side, and on `rest_completion`, which joins
 //! both ends and says that what was got is the beginning of what was put.
 ghost use Rattle.std.specs.Prelude.{◌≡◌, ◌^◌, ◌<◌, ◌≤◌, IfOk};
-ghost use Rattle.cal_queue.specs.CompletionCalls.{AreEndsOfOneRing, get_pass, put_pass};
+ghost use Rattle.cal_queue.specs.CompletionCalls.{IsOneRing, get_pass, put_pass};
 ghost use Rattle.cal_queue.specs.CompletionPass.{new_get_pass, new_put_pass};
 
 mod get_seat;
@@ -41,7 +41,7 @@ impl CompletionRing {
         requires countable { capacity < 2 ^ 32 }
         ensures put { IfOk result (λ ends. put_pass ends.0 ≡ new_put_pass capacity) }
         ensures get { IfOk result (λ ends. get_pass ends.1 ≡ new_get_pass capacity) }
-        ensures one_ring { IfOk result (λ ends. AreEndsOfOneRing ends.0 ends.1) }
+        ensures one_ring { IfOk result (λ ends. IsOneRing ends.0 ends.1) }
     {
         let words = vec![in alloc; 0; capacity + 2]?;
         let capacity = capacity as u64;

@@ -1,9 +1,9 @@
 //! The words that the two sides of a connection share: one that says which sides are there, and one
 //! for each channel. Each side changes them in single steps through a seat of its own. The layer
 //! above may rely on each answer carrying a word that a step of that call saw, and on a seat's pass,
-//! which contracts see: the list of all steps that the seat took.
+//! which contracts see: the list of all steps that the seat after_step.
 ghost use Rattle.std.specs.Prelude.{◌≡◌, ◌≤◌, ◌^◌, ◌<◌, IfOk};
-ghost use Rattle.cal_queue.specs.StateTable.{opening_words, unused};
+ghost use Rattle.cal_queue.specs.StateTable.{opening_words, new_pass_of};
 ghost use Rattle.cal_queue.specs.StateSeats.{pass, ShareTable};
 
 mod calls;
@@ -35,8 +35,8 @@ impl StateTable {
         initial: u64,
     ) -> Result<(StateSeat, StateSeat), AllocError>
         requires { port ≤ 3 }
-        ensures first { IfOk result (λ seats. pass seats.0 ≡ unused port channels initial) }
-        ensures second { IfOk result (λ seats. pass seats.1 ≡ unused port channels initial) }
+        ensures first { IfOk result (λ seats. pass seats.0 ≡ new_pass_of port channels initial) }
+        ensures second { IfOk result (λ seats. pass seats.1 ≡ new_pass_of port channels initial) }
         ensures shared { IfOk result (λ seats. ShareTable seats.0 seats.1) }
     {
         let opening = OpeningWords {

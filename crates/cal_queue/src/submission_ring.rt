@@ -3,7 +3,7 @@
 //! above may rely on each value sent being received or given back at most once, in the order of sending, and on `rest`,
 //! which joins both ends and says that nothing was lost.
 ghost use Rattle.std.specs.Prelude.{◌≡◌, ◌+◌, ◌^◌, ◌<◌, ◌≤◌, length, replicate, IfOk};
-ghost use Rattle.cal_queue.specs.Spread.{IsSpread};
+ghost use Rattle.cal_queue.specs.Partition.{IsPartition};
 ghost use Rattle.cal_queue.specs.SubmissionPass.{new_send_pass, new_take_pass};
 ghost use Rattle.cal_queue.specs.SubmissionCalls.{send_pass, take_pass, IsOneRing, IsScheduled};
 
@@ -12,10 +12,10 @@ mod pass;
 mod plays;
 mod rule;
 mod send_seat;
-mod sender_steps;
+mod send_steps;
 mod sending;
 mod take_seat;
-mod taker_steps;
+mod take_steps;
 mod taking;
 #[cfg(test)]
 mod tests;
@@ -24,7 +24,7 @@ use crate::ring_words::{FIRST_SLOT, READ_POSITION};
 use crate::sided::Parting;
 pub use interleavings::every_interleaving_is_a_schedule;
 pub use pass::{SendPass, TakePass};
-use plays::Settle;
+use plays::Settles;
 use rule::{Meeting, RingTable};
 pub use send_seat::SendSeat;
 use std::alloc::{AllocError, Global};
@@ -73,7 +73,7 @@ impl SubmissionRing {
             seat,
             buffer,
             written: 0,
-            returned: 0,
+            overflowed: 0,
             index: 0,
             copy,
         };
@@ -94,10 +94,10 @@ pub fn rest(send: SendSeat, take: TakeSeat) -> RingRest
     requires { IsOneRing send take }
     ensures sent { result.sent ≡ length (send_pass send).sent }
     ensures received { result.received ≡ length (take_pass take).received }
-    ensures returned { result.returned ≡ length (send_pass send).returned }
+    ensures returned { result.returned ≡ length (send_pass send).overflowed }
     ensures adds_up { result.sent ≡ result.received + result.returned + result.left }
     ensures within { result.left ≤ (send_pass send).buffer }
-    ensures spread { IsSpread (send_pass send).sent (take_pass take).received (send_pass send).returned }
+    ensures partition { IsPartition (send_pass send).sent (take_pass take).received (send_pass send).overflowed }
     ensures scheduled { IsScheduled (send_pass send) (take_pass take) }
 {
     let SendSeat {
@@ -105,7 +105,7 @@ pub fn rest(send: SendSeat, take: TakeSeat) -> RingRest
         mut seat,
         buffer: _,
         written,
-        returned,
+        overflowed,
         index: _,
         copy: _,
     } = send;
@@ -118,11 +118,11 @@ pub fn rest(send: SendSeat, take: TakeSeat) -> RingRest
         index: _,
     } = take;
     table.shared.join_seat::<Meeting>(&mut seat, other);
-    let read = table.shared.load::<Settle>(&mut seat, READ_POSITION);
+    let read = table.shared.load::<Settles>(&mut seat, READ_POSITION);
     RingRest {
         sent: written as usize,
         received: received as usize,
-        returned: returned as usize,
+        returned: overflowed as usize,
         left: (written - read) as usize,
     }
 }

@@ -3,7 +3,7 @@ ghost use Rattle.std.specs.Prelude.{◌≡◌, ◌<◌, [], IfErr, IfOk};
 ghost use Rattle.std.specs.Bool.{OnTrue};
 ghost use Rattle.cal_queue.specs.StateAnswers.{Refused};
 ghost use Rattle.cal_queue.specs.StateSeats.{pass};
-ghost use Rattle.cal_queue.specs.StateTable.{IsPortBit, IsPortWord, mark, port_place, wrote};
+ghost use Rattle.cal_queue.specs.StateTable.{IsPortBit, IsPortWord, mark, port_index, write_step};
 ghost use Rattle.cal_tests.specs.Writes.{EndsIn, writes};
 
 use cal_queue::reserve_refusal::ReserveRefusal;
@@ -15,7 +15,7 @@ use std::thread::{Threads, join};
 /// A side joins and leaves again. The answer is whether it left the mark, or why it did not join.
 fn visit<R: Wait>(rt: &R, mut seat: StateSeat, bit: u8) -> (StateSeat, Result<bool, ReserveRefusal>)
     requires { IsPortBit bit }
-    ensures marked { IfOk result.1 (λ marked. OnTrue marked (EndsIn (pass result.0).steps (wrote port_place bit mark))) }
+    ensures marked { IfOk result.1 (λ marked. OnTrue marked (EndsIn (pass result.0).steps (write_step port_index bit mark))) }
     ensures refused { IfErr result.1 (λ refusal. Refused bit refusal (pass seat) (pass result.0)) }
 {
     if let Err(refusal) = seat.reserve(rt, bit) {

@@ -6,12 +6,12 @@ use super::get_steps::{load_write, take};
 use crate::ring_words::{FIRST_SLOT, next_index};
 
 impl GetSeat {
-    ghost use Rattle.cal_queue.specs.CompletionPass.{loaded_slot, loaded_write, stored_read};
+    ghost use Rattle.cal_queue.specs.CompletionPass.{after_slot_look, after_write_look, after_read_store};
     ghost use Rattle.cal_queue.specs.CompletionCalls.{Gets, SameGetEnd, SeesEmpty, get_pass};
 
     fn look(&mut self) -> u64
         ensures same_end { SameGetEnd self.old self.new }
-        ensures one_load { get_pass self.new ≡ loaded_write result (get_pass self.old) }
+        ensures one_load { get_pass self.new ≡ after_write_look result (get_pass self.old) }
         ensures within { length (get_pass self.old).got ≤ result }
     {
         load_write(&self.table, &mut self.seat)
@@ -22,7 +22,7 @@ impl GetSeat {
         requires waits { length (get_pass self.old).got < (get_pass self.old).seen_write }
         requires counts { length (get_pass self.old).got < 2 ^ 64 - 1 }
         ensures same_end { SameGetEnd self.old self.new }
-        ensures got { get_pass self.new ≡ stored_read (loaded_slot result (get_pass self.old)) }
+        ensures got { get_pass self.new ≡ after_read_store (after_slot_look result (get_pass self.old)) }
     {
         let slot = FIRST_SLOT + self.index;
         let value = take(&self.table, &mut self.seat, slot, self.read);

@@ -5,7 +5,7 @@ ghost use Rattle.cal_queue.specs.CompletionLaw.{EachRunIsASchedule, EachStepIsAn
 /// of the read position is a reclaim, no other step is an event, and from any moment on the events
 /// of a run of steps are a schedule of the channel.
 pub fn every_interleaving_is_a_schedule()
-    ensures opens { NewRingIsUnused }
-    ensures steps { EachStepIsAnEvent }
-    ensures runs { EachRunIsASchedule }
+    ensures start { NewRingIsUnused }
+    ensures step { EachStepIsAnEvent }
+    ensures run { EachRunIsASchedule }
 {}

@@ -2,7 +2,7 @@
 ghost use Rattle.std.specs.Prelude.{◌≡◌, ◌+◌, true, false, []};
 ghost use Rattle.cal_queue.specs.CompletionSteps.{IsSettled};
 
-use super::plays::Settle;
+use super::plays::Settles;
 use super::rule::{Meeting, RingSeat, RingTable};
 use crate::ring_words::READ_POSITION;
 use crate::sided::Parting;
@@ -28,5 +28,5 @@ pub(super) fn meet(table: &RingTable, seat: &mut RingSeat, other: RingSeat)
     ensures settled { IsSettled seat.old.me.0.writer other.me.0.reader }
 {
     table.shared.join_seat::<Meeting>(seat, other);
-    table.shared.load::<Settle>(seat, READ_POSITION);
+    table.shared.load::<Settles>(seat, READ_POSITION);
 }

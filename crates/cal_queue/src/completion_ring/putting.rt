@@ -8,13 +8,13 @@ use crate::push_refusal::PushRefusal;
 use crate::ring_words::{FIRST_SLOT, next_index};
 
 impl PutSeat {
-    ghost use Rattle.cal_queue.specs.CompletionPass.{loaded_read, stored_slot, stored_write};
+    ghost use Rattle.cal_queue.specs.CompletionPass.{after_read_load, after_slot_store, after_write_store};
     ghost use Rattle.cal_queue.specs.CompletionCalls.{Puts, SamePutEnd, SeesFull, put_pass};
     ghost use Rattle.cal_queue.specs.declared.push_refusal.PushRefusal.TheVariants.{Full, PositionsUsedUp};
 
     fn look(&mut self) -> u64
         ensures same_end { SamePutEnd self.old self.new }
-        ensures one_load { put_pass self.new ≡ loaded_read result (put_pass self.old) }
+        ensures one_load { put_pass self.new ≡ after_read_load result (put_pass self.old) }
         ensures within { result ≤ length (put_pass self.old).put }
         ensures room { length (put_pass self.old).put ≤ result + (put_pass self.old).capacity }
     {
@@ -26,7 +26,7 @@ impl PutSeat {
         requires room { length (put_pass self.old).put < (put_pass self.old).seen_read + (put_pass self.old).capacity }
         requires counts { length (put_pass self.old).put < 2 ^ 64 - 1 }
         ensures same_end { SamePutEnd self.old self.new }
-        ensures put { put_pass self.new ≡ stored_write (stored_slot value (put_pass self.old)) }
+        ensures put { put_pass self.new ≡ after_write_store (after_slot_store value (put_pass self.old)) }
     {
         let slot = FIRST_SLOT + self.index;
         append(&self.table, &mut self.seat, slot, self.written, value);

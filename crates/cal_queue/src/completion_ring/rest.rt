@@ -1,6 +1,6 @@
 //! A ring at rest: both ends come together, and their counts are compared.
 ghost use Rattle.std.specs.Prelude.{◌≡◌, ◌+◌, ◌≤◌, length, take};
-ghost use Rattle.cal_queue.specs.CompletionCalls.{AreEndsOfOneRing, get_pass, put_pass};
+ghost use Rattle.cal_queue.specs.CompletionCalls.{IsOneRing, get_pass, put_pass};
 ghost use Rattle.cal_queue.specs.CompletionRule.{IsCompleted};
 
 use super::get_seat::GetSeat;
@@ -17,7 +17,7 @@ pub struct CompletionRest {
 
 /// Takes both ends of a ring, and counts what went through it.
 pub fn rest_completion(put: PutSeat, get: GetSeat) -> CompletionRest
-    requires { AreEndsOfOneRing put get }
+    requires { IsOneRing put get }
     ensures put { result.put ≡ length (put_pass put).put }
     ensures got { result.got ≡ length (get_pass get).got }
     ensures left { result.got + result.left ≡ result.put }

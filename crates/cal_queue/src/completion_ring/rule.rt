@@ -15,9 +15,9 @@ pub(crate) type RingTable = Table<(), RingView, u64, CompletionRule, Global>;
 pub(crate) struct CompletionRule;
 
 impl TableRule<(), RingView, u64> for CompletionRule {
-    ghost use Rattle.cal_queue.specs.CompletionRule.{HoldsOfRing, new_view};
+    ghost use Rattle.cal_queue.specs.CompletionRule.{IsSoundTable, new_view};
 
-    ghost holds = { HoldsOfRing };
+    ghost holds = { IsSoundTable };
 
     ghost first = { new_view };
 }
@@ -26,10 +26,10 @@ impl TableRule<(), RingView, u64> for CompletionRule {
 pub(crate) struct Meeting;
 
 impl Join<RingView> for Meeting {
-    ghost use Rattle.cal_queue.specs.Sides.{joined};
+    ghost use Rattle.cal_queue.specs.Sides.{joined_sides};
     ghost use Rattle.cal_queue.specs.CompletionRule.{spent_view};
 
-    ghost both = { joined };
+    ghost both = { joined_sides };
 
     ghost spent = { spent_view };
 }

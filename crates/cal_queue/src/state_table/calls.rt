@@ -2,7 +2,7 @@
 ghost use Rattle.std.specs.Prelude.{◌≡◌, ◌≢◌, ◌+◌, ◌<◌, ◌⊎◌, IfErr, MatchResult, OnOk};
 ghost use Rattle.std.specs.Bool.{OnFalse, OnTrue};
 ghost use Rattle.cal_queue.specs.StateAnswers.{LeftMark, LeftOther, Refused, Reserved, WasAbsent};
-ghost use Rattle.cal_queue.specs.StateTable.{IsPortBit, IsPortWord, IsWitnessed, channel_place, looked, port_place, took, wrote};
+ghost use Rattle.cal_queue.specs.StateTable.{IsPortBit, IsPortWord, IsWitnessed, channel_index, load_step, port_index, after_step, write_step};
 
 use super::tries::PORT;
 use super::{StateSeat, steps};
@@ -15,7 +15,7 @@ impl StateSeat {
     /// Which sides are there, by one load of the port word.
     pub fn load_port(&mut self) -> u64
         ensures same_table { ShareTable self.new self.old }
-        ensures step { pass self.new ≡ took (pass self.old) (looked port_place result) }
+        ensures step { pass self.new ≡ after_step (pass self.old) (load_step port_index result) }
         ensures port { IsPortWord result }
         ensures witnessed { IsWitnessed (pass self.new) }
     {
@@ -27,7 +27,7 @@ impl StateSeat {
     pub fn load_channel(&mut self, channel: usize) -> u64
         requires { channel < (pass self.old).opening.channels }
         ensures same_table { ShareTable self.new self.old }
-        ensures step { pass self.new ≡ took (pass self.old) (looked (channel_place channel) result) }
+        ensures step { pass self.new ≡ after_step (pass self.old) (load_step (channel_index channel) result) }
         ensures witnessed { IsWitnessed (pass self.new) }
     {
         let StateSeat { table, seat, .. } = self;
@@ -39,9 +39,9 @@ impl StateSeat {
     pub fn exchange_channel(&mut self, channel: usize, expected: u64, new: u64) -> Result<u64, u64>
         requires { channel < (pass self.old).opening.channels }
         ensures same_table { ShareTable self.new self.old }
-        ensures won { OnOk result (pass self.new ≡ took (pass self.old) (wrote (channel_place channel) expected new)) }
+        ensures won { OnOk result (pass self.new ≡ after_step (pass self.old) (write_step (channel_index channel) expected new)) }
         ensures word { MatchResult result (λ word. word ≡ expected) (λ word. word ≢ expected) }
-        ensures lost { IfErr result (λ word. pass self.new ≡ took (pass self.old) (looked (channel_place channel) word)) }
+        ensures lost { IfErr result (λ word. pass self.new ≡ after_step (pass self.old) (load_step (channel_index channel) word)) }
         ensures witnessed { IsWitnessed (pass self.new) }
     {
         let StateSeat { table, seat, .. } = self;

@@ -11,10 +11,10 @@ pub struct OpeningWords {
     pub channels: u64,
 }
 
-/// One step at a word: where the word stands, what the step saw there, and what it wrote, if it did.
+/// One step at a word: the index of the word, what the step saw there, and what it write_step, if it did.
 #[derive(Drop)]
 pub struct StateStep {
-    pub place: u64,
+    pub index: u64,
     pub seen: u64,
     pub written: Option<u64>,
 }

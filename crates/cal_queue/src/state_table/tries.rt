@@ -2,7 +2,7 @@
 ghost use Rattle.std.specs.Prelude.{◌≡◌, ℕ, ◌⊎◌, IfErr, IfNone, IfOk, IfSome, OnOk};
 ghost use Rattle.std.specs.Bool.{MatchBool, OnFalse, OnTrue};
 ghost use Rattle.cal_queue.specs.StateAnswers.{LeftMark, LeftOther, OnlyLooked, Refused, Reserved, WasAbsent};
-ghost use Rattle.cal_queue.specs.StateTable.{IsPortBit, IsPortWord, IsWitnessed, MayChange, has_bit, looked, port_place, took, wrote};
+ghost use Rattle.cal_queue.specs.StateTable.{IsPortBit, IsPortWord, IsWitnessed, MayChange, has_bit, load_step, port_index, after_step, write_step};
 
 use super::{StateSeat, steps};
 use crate::reserve_refusal::ReserveRefusal;
@@ -28,15 +28,15 @@ impl StateSeat {
     fn try_change(&mut self, seen: u64, new: u64) -> bool
         requires { MayChange seen new }
         ensures same_table { ShareTable self.new self.old }
-        ensures won { OnTrue result (pass self.new ≡ took (pass self.old) (wrote port_place seen new)) }
-        ensures lost { OnFalse result ((word : ℕ) × (pass self.new ≡ took (pass self.old) (looked port_place word))) }
+        ensures won { OnTrue result (pass self.new ≡ after_step (pass self.old) (write_step port_index seen new)) }
+        ensures lost { OnFalse result ((word : ℕ) × (pass self.new ≡ after_step (pass self.old) (load_step port_index word))) }
         ensures witnessed { IsWitnessed (pass self.new) }
     {
         let StateSeat { table, seat, .. } = self;
         steps::exchange(table, seat, PORT, seen, new) == seen
     }
 
-    // Whether the bit was added. It was not where the word changed after it was looked at.
+    // Whether the bit was added. It was not where the word changed after it was load_step at.
     pub(super) fn try_reserve(&mut self, bit: u64) -> Result<bool, ReserveRefusal>
         requires { IsPortBit bit }
         ensures same_table { ShareTable self.new self.old }
@@ -54,7 +54,7 @@ impl StateSeat {
         Ok(self.try_change(seen, seen + bit))
     }
 
-    // Whether the word was marked, or None where it changed after it was looked at.
+    // Whether the word was marked, or None where it changed after it was load_step at.
     pub(super) fn try_leave(&mut self, bit: u64) -> Option<bool>
         requires { IsPortBit bit }
         ensures same_table { ShareTable self.new self.old }

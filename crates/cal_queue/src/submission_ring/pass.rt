@@ -8,7 +8,7 @@ pub struct SendPass {
     // The values sent, the first one first.
     pub sent: LinkedList<u64>,
     // The positions that overflowed, each with the value that was sent there.
-    pub returned: LinkedList<(u64, u64)>,
+    pub overflowed: LinkedList<(u64, u64)>,
     // The read position as it was last loaded, and how many loads there were.
     pub seen_read: u64,
     pub loads: u64,

@@ -14,9 +14,9 @@ pub struct SendSeat {
     pub(super) table: Arc<RingTable, Global>,
     pub(super) seat: RingSeat,
     pub(super) buffer: u64,
-    // The write position, which only this end moves, and how many values came back.
+    // The write position, which only this end moves, and how many values overflowed.
     pub(super) written: u64,
-    pub(super) returned: u64,
+    pub(super) overflowed: u64,
     // The index of the write position's slot, which is its index in the copy too.
     pub(super) index: usize,
     // The last values sent, one more than the buffer, so that the oldest comes back without a look at its slot.
@@ -26,7 +26,7 @@ pub struct SendSeat {
     ghost sends: { (seat.me.0.writes ≡ true) × (seat.me.0.writer.buffer ≡ buffer) },
     ghost nothing_due: { seat.me.0.writer.exchange_due ≡ false },
     ghost nothing_to_send: { seat.me.0.writer.to_send ≡ None } by { Prim.hlevel props },
-    ghost counted: { (written ≡ length seat.me.0.writer.sent) × (returned ≡ length seat.me.0.writer.returned) },
+    ghost counted: { (written ≡ length seat.me.0.writer.sent) × (overflowed ≡ length seat.me.0.writer.overflowed) },
     ghost indexed: { index ≡ written % (buffer + 1) },
     ghost copied: { KeepsLast buffer seat.me.0.writer.sent copy.items },
 }

@@ -3,19 +3,19 @@
 ghost use Rattle.std.specs.Prelude.{◌≡◌, ◌+◌, ◌-◌, ◌%◌, ◌^◌, ◌<◌, ◌≤◌, ◌↔◌, ◌⊎◌, [], ◌∷◌, ◌++◌, length, IsTrue, IsFalse, IfSome, IfNone, IfOk, IsOk, OnOk, OnErr, slice_get, Some, None, Ok, Err};
 
 use super::send_seat::SendSeat;
-use super::sender_steps::{append, displace, load_read};
+use super::send_steps::{append, exchange_read, load_read};
 use crate::positions::is_used_up;
 use crate::push_refusal::PushRefusal;
 use crate::ring_words::{FIRST_SLOT, next_index};
 
 impl SendSeat {
-    ghost use Rattle.cal_queue.specs.SubmissionPass.{loaded_read, stored_slot, stored_write};
-    ghost use Rattle.cal_queue.specs.SubmissionCalls.{send_pass, SameSendEnd, SameLists, LoadsOnce, SeesFull, SeesRoom, LosesExchange, ComesBack};
+    ghost use Rattle.cal_queue.specs.SubmissionPass.{after_read_load, after_slot_store, after_write_store};
+    ghost use Rattle.cal_queue.specs.SubmissionCalls.{send_pass, SameSendEnd, SameLists, LoadsOnce, SeesFull, SeesRoom, LosesExchange, Overflows};
     ghost use Rattle.cal_queue.specs.declared.push_refusal.PushRefusal.TheVariants.{Full, PositionsUsedUp};
 
     fn look(&mut self) -> u64
         ensures same_end { SameSendEnd self.old self.new }
-        ensures one_load { send_pass self.new ≡ loaded_read result (send_pass self.old) }
+        ensures one_load { send_pass self.new ≡ after_read_load result (send_pass self.old) }
         ensures within { result ≤ length (send_pass self.old).sent }
         ensures room { length (send_pass self.old).sent ≤ result + (send_pass self.old).buffer }
     {
@@ -27,7 +27,7 @@ impl SendSeat {
         requires room { length (send_pass self.old).sent < (send_pass self.old).seen_read + (send_pass self.old).buffer }
         requires counts { length (send_pass self.old).sent < 2 ^ 64 - 1 }
         ensures same_end { SameSendEnd self.old self.new }
-        ensures sent { send_pass self.new ≡ stored_write value (stored_slot value (send_pass self.old)) }
+        ensures sent { send_pass self.new ≡ after_write_store value (after_slot_store value (send_pass self.old)) }
     {
         append(
             &self.table,
@@ -42,14 +42,14 @@ impl SendSeat {
     }
 
     // Sends a value where the last look showed none, and tries to take the oldest one back.
-    fn send_over(&mut self, value: u64) -> Option<u64>
+    fn send_with_overflow(&mut self, value: u64) -> Option<u64>
         requires full { length (send_pass self.old).sent ≡ (send_pass self.old).seen_read + (send_pass self.old).buffer }
         requires counts { length (send_pass self.old).sent < 2 ^ 64 - 1 }
         ensures same_end { SameSendEnd self.old self.new }
         ensures sent { (send_pass self.new).sent ≡ (send_pass self.old).sent ++ value ∷ [] }
         ensures looked { ((send_pass self.new).seen_read ≡ (send_pass self.old).seen_read) × ((send_pass self.new).loads ≡ (send_pass self.old).loads) }
-        ensures back { IfSome result (λ oldest. ComesBack oldest (send_pass self.old) (send_pass self.new)) }
-        ensures kept { IfNone result ((send_pass self.new).returned ≡ (send_pass self.old).returned) }
+        ensures back { IfSome result (λ oldest. Overflows oldest (send_pass self.old) (send_pass self.new)) }
+        ensures kept { IfNone result ((send_pass self.new).overflowed ≡ (send_pass self.old).overflowed) }
         ensures lost { IfNone result (LosesExchange (send_pass self.old) (send_pass self.new)) }
     {
         let read = self.written - self.buffer;
@@ -63,10 +63,10 @@ impl SendSeat {
         self.copy[self.index] = value;
         self.index = next_index(self.index, self.buffer + 1);
         self.written += 1;
-        if !displace(&self.table, &mut self.seat, read) {
+        if !exchange_read(&self.table, &mut self.seat, read) {
             return None;
         }
-        self.returned += 1;
+        self.overflowed += 1;
         Some(self.copy[self.index])
     }
 
@@ -75,9 +75,9 @@ impl SendSeat {
     pub fn push(&mut self, value: u64, overflow: bool) -> Result<Option<u64>, PushRefusal>
         ensures same_end { SameSendEnd self.old self.new }
         ensures appended { OnOk result ((send_pass self.new).sent ≡ (send_pass self.old).sent ++ value ∷ []) }
-        ensures returned { IfOk result (λ back. IfSome back (λ oldest. ComesBack oldest (send_pass self.old) (send_pass self.new))) }
+        ensures returned { IfOk result (λ back. IfSome back (λ oldest. Overflows oldest (send_pass self.old) (send_pass self.new))) }
         ensures returned_where_full { IfOk result (λ back. IfSome back (λ oldest. IsTrue overflow × SeesFull (send_pass self.old) (send_pass self.new))) }
-        ensures none_returned { IfOk result (λ back. IfNone back ((send_pass self.new).returned ≡ (send_pass self.old).returned)) }
+        ensures none_returned { IfOk result (λ back. IfNone back ((send_pass self.new).overflowed ≡ (send_pass self.old).overflowed)) }
         ensures none_returned_where { IfOk result (λ back. IfNone back (SeesRoom (send_pass self.old) (send_pass self.new)
             ⊎ (IsTrue overflow × SeesFull (send_pass self.old) (send_pass self.new) × LosesExchange (send_pass self.old) (send_pass self.new)))) }
         ensures refused { OnErr result (SameLists (send_pass self.old) (send_pass self.new)) }
@@ -97,7 +97,7 @@ impl SendSeat {
         if !overflow {
             return Err(PushRefusal::Full);
         }
-        Ok(self.send_over(value))
+        Ok(self.send_with_overflow(value))
     }
 
     /// Whether fewer values wait than may, by one look. Only this end adds values, so the answer `true` stays right until

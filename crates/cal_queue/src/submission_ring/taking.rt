@@ -2,17 +2,17 @@
 ghost use Rattle.std.specs.Prelude.{◌≡◌, ◌+◌, ◌%◌, ◌<◌, ◌≤◌, ◌↔◌, [], ◌∷◌, ◌++◌, length, IsTrue, IsFalse, IfSome, IfNone, Some, None};
 
 use super::take_seat::TakeSeat;
-use super::taker_steps::{load_positions, take};
+use super::take_steps::{load_positions, take};
 use crate::ring_words::{FIRST_SLOT, next_index};
 use std::sync::Wait;
 
 impl TakeSeat {
-    ghost use Rattle.cal_queue.specs.SubmissionPass.{looked_at_read, looked_at_write, took, missed};
+    ghost use Rattle.cal_queue.specs.SubmissionPass.{after_read_look, after_write_look, after_take, after_miss};
     ghost use Rattle.cal_queue.specs.SubmissionCalls.{take_pass, SameTakeEnd, LooksOnce, SeesEmpty};
 
     fn look(&mut self) -> (u64, u64)
         ensures same_end { SameTakeEnd self.old self.new }
-        ensures looked { take_pass self.new ≡ looked_at_write result.1 (looked_at_read result.0 (take_pass self.old)) }
+        ensures looked { take_pass self.new ≡ after_write_look result.1 (after_read_look result.0 (take_pass self.old)) }
         ensures within { result.0 ≤ result.1 }
     {
         load_positions(&self.table, &mut self.seat)
@@ -32,10 +32,10 @@ impl TakeSeat {
     // Takes the value at the position that the last look showed, unless the sender was faster.
     fn try_take(&mut self, read: u64, written: u64) -> Option<u64>
         requires looked { (read ≡ (take_pass self.old).seen_read) × ((take_pass self.old).seen_write ≡ Some written) }
-        requires queued { read < written }
+        requires queued_count { read < written }
         ensures same_end { SameTakeEnd self.old self.new }
-        ensures taken { IfSome result (λ value. take_pass self.new ≡ took value (take_pass self.old)) }
-        ensures lost { IfNone result (take_pass self.new ≡ missed (take_pass self.old)) }
+        ensures taken { IfSome result (λ value. take_pass self.new ≡ after_take value (take_pass self.old)) }
+        ensures lost { IfNone result (take_pass self.new ≡ after_miss (take_pass self.old)) }
     {
         let index = self.index_of(read);
         let value = take(
@@ -51,7 +51,7 @@ impl TakeSeat {
         Some(value)
     }
 
-    /// Takes the oldest value, if one waits. It tries again where the sender took that value back meanwhile.
+    /// Takes the oldest value, if one waits. It tries again where the sender after_take that value back meanwhile.
     pub fn pop<R: Wait>(&mut self, rt: &R) -> Option<u64>
         ensures same_end { SameTakeEnd self.old self.new }
         ensures received { IfSome result (λ value. (take_pass self.new).received ≡ (take_pass self.old).received ++ ((take_pass self.new).seen_read, value) ∷ []) }

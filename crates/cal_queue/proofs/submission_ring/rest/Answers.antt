@@ -1,10 +1,10 @@
 use Rattle.std.proofs.Common.{ℕ, List, length, rules, arith, ap, refl, sym, subst}
-use Rattle.cal_queue.specs.Channel.{Tag, received, tagged_from}
+use Rattle.cal_queue.specs.RingState.{Tag, received, tagged_positions}
 use Rattle.cal_queue.specs.SubmissionSteps.{End, IsSettled}
-use Rattle.cal_queue.specs.Spread.{IsSpread}
+use Rattle.cal_queue.specs.Partition.{IsPartition}
 use Rattle.cal_queue.proofs.SidedTables.{sides_join}
-use Rattle.cal_queue.proofs.SubmissionAllowed.{settle_allowed}
-use Rattle.cal_queue.proofs.TaggedPositions.{tagged-counts, tagged-spread}
+use Rattle.cal_queue.proofs.SubmissionAllowed.{settles-allowed}
+use Rattle.cal_queue.proofs.TaggedPositions.{tagged-counts, tagged-partition}
 use Rattle.cal_queue.proofs.submission_ring.rest.Goals as goal
 
 pub join_seat-requires : goal.join_seat-requires
@@ -21,10 +21,10 @@ join_seat-requires c =
 
 pub load-read-requires : goal.load-read-requires
 load-read-requires c =
-    let joined = c.join_seat.ensures.2 in (
+    let joined_sides = c.join_seat.ensures.2 in (
       search rules,
       search rules,
-      settle_allowed _ _ _ _ (ap (λ (m : End). m.0.writes) joined) (ap (λ (m : End). m.0.reads) joined),
+      settles-allowed _ _ _ _ (ap (λ (m : End). m.0.writes) joined_sides) (ap (λ (m : End). m.0.reads) joined_sides),
     )
 
 -- what the last look told, of the passes as they stood
@@ -39,7 +39,7 @@ returns-clause-adds_up c =
     let send = c.args.send in
     let sent = send.seat.me.0.writer.sent in
     let counts = tagged-counts 0 told.0 sent told.1.read_within in
-    let returned = ap length told.1.returned_overflowed in
+    let returned = ap length told.1.overflowed_tagged in
     let received = ap length told.1.received_tagged in
     let position = told.1.read_position in
     let within = told.1.read_within in
@@ -54,14 +54,14 @@ returns-clause-within c =
     let position = told.1.read_position in
     let counted = send.counted in omega arith
 
-pub returns-clause-spread : goal.returns-clause-spread
-returns-clause-spread c =
+pub returns-clause-partition : goal.returns-clause-partition
+returns-clause-partition c =
     let told = settled c in
     let sent = c.args.send.seat.me.0.writer.sent in
-    let spread = tagged-spread told.0 sent told.1.read_within in
-    subst (λ (l : List (ℕ × ℕ)). IsSpread sent l c.args.send.seat.me.0.writer.returned) (sym told.1.received_tagged)
-    (subst (λ (l : List (ℕ × ℕ)). IsSpread sent (tagged_from received 0 told.0 sent) l) (sym told.1.returned_overflowed) spread)
+    let partition = tagged-partition told.0 sent told.1.read_within in
+    subst (λ (l : List (ℕ × ℕ)). IsPartition sent l c.args.send.seat.me.0.writer.overflowed) (sym told.1.received_tagged)
+    (subst (λ (l : List (ℕ × ℕ)). IsPartition sent (tagged_positions received 0 told.0 sent) l) (sym told.1.overflowed_tagged) partition)
 
 pub returns-clause-scheduled : goal.returns-clause-scheduled
 returns-clause-scheduled c =
-    let told = settled c in (told.0, told.1.submitted, told.1.returned_overflowed, told.1.received_tagged)
+    let told = settled c in (told.0, told.1.submitted, told.1.overflowed_tagged, told.1.received_tagged)

@@ -9,8 +9,8 @@ returns-clause-sent g c = c.rest.ensures.sent ∙ ap length c.join-send.ensures.
 
 pub returns-clause-rises : goal.returns-clause-rises
 returns-clause-rises g c =
-    let spread = c.rest.ensures.spread in
+    let partition = c.rest.ensures.partition in
     let sent = c.join-send.ensures.first.1 in
     let took = rw c.in_ok-take.was at c.join-send.ensures.second in
     let rising = subst IsRising (sym sent) (range-rises c.args.count) in
-    subst IsRising (sym took.1) (received-rises _ _ rising spread.received_rise spread.received_as_sent)
+    subst IsRising (sym took.1) (received-rises _ _ rising partition.received_rise partition.received_as_sent)

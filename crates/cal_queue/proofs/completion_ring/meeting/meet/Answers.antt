@@ -1,7 +1,7 @@
 use Rattle.std.proofs.Common.{ap, refl, ◌∙◌, subst, arith}
-use Rattle.cal_queue.specs.CompletionRule.{ShowsChannel}
+use Rattle.cal_queue.specs.CompletionRule.{IsSoundRing}
 use Rattle.cal_queue.specs.CompletionSteps.{End, IsSettled}
-use Rattle.cal_queue.proofs.CompletionAllowed.{settle_allowed}
+use Rattle.cal_queue.proofs.CompletionAllowed.{settles-allowed}
 use Rattle.cal_queue.proofs.SidedTables.{sides_join}
 use Rattle.cal_queue.proofs.completion_ring.meeting.meet.Goals as goal
 
@@ -11,14 +11,14 @@ join_seat-requires c = (
   c.requires.other.0,
   c.requires.other.1,
   omega arith,
-  sides_join (ShowsChannel c.args.table.now.shared.key) _ _ c.requires.sides.0 _ _ _ c.requires.sides.1 refl refl,
+  sides_join (IsSoundRing c.args.table.now.shared.key) _ _ c.requires.sides.0 _ _ _ c.requires.sides.1 refl refl,
 )
 
 pub load-requires : goal.load-requires
 load-requires c = (
   c.join_seat.ensures.0 ∙ c.requires.seated,
   omega arith,
-  settle_allowed c.args.table.now.shared.key _ _ _ (ap (λ (m : End). m.0.writes) c.join_seat.ensures.2) (ap (λ (m : End). m.0.reads) c.join_seat.ensures.2),
+  settles-allowed c.args.table.now.shared.key _ _ _ (ap (λ (m : End). m.0.writes) c.join_seat.ensures.2) (ap (λ (m : End). m.0.reads) c.join_seat.ensures.2),
 )
 
 pub returns : goal.returns

@@ -19,7 +19,7 @@ invariant_of-self c =
       sends = (ap (λ (m : End). m.0.writes) done ∙ self.sends.0, ap (λ (m : End). m.0.writer.buffer) done ∙ self.sends.1);
       nothing_due = ap (λ (m : End). m.0.writer.exchange_due) done ∙ ne_eqb _ _ not_full;
       nothing_to_send = ap (λ (m : End). m.0.writer.to_send) done;
-      counted = (omega arith, self.counted.1 ∙ sym (ap (λ (m : End). length m.0.writer.returned) done));
+      counted = (omega arith, self.counted.1 ∙ sym (ap (λ (m : End). length m.0.writer.overflowed) done));
       indexed = c.next_index-self.ensures.next self.written self.indexed;
       copied = subst (λ (l : List ℕ). KeepsLast self.buffer l (set self.copy.items self.index c.args.value)) (sym (ap (λ (m : End). m.0.writer.sent) done)) (KeepsLast-more self.buffer sent self.copy.items self.index c.args.value self.copied here);
     }

@@ -1,10 +1,10 @@
 //! The taker's steps on the table.
 ghost use Rattle.std.specs.Prelude.{◌≡◌, ◌+◌, ◌-◌, ◌^◌, ◌<◌, ◌≤◌, true, false, length, Some, IfSome, IfNone};
 ghost use Rattle.cal_queue.specs.Sides.{with_reader};
-ghost use Rattle.cal_queue.specs.SubmissionPass.{looked_at_read, looked_at_write, looked_at_slot, took, missed};
+ghost use Rattle.cal_queue.specs.SubmissionPass.{after_read_look, after_write_look, after_slot_look, after_take, after_miss};
 ghost use Rattle.cal_queue.specs.SubmissionRule.{slot_of};
 
-use super::plays::{LookAtRead, LookAtSlot, LookAtWrite, Take};
+use super::plays::{ReaderExchangesRead, ReaderLoadsRead, ReaderLoadsSlot, ReaderLoadsWrite};
 use super::rule::{RingSeat, RingTable};
 use crate::ring_words::{READ_POSITION, WRITE_POSITION};
 
@@ -14,11 +14,11 @@ pub(super) fn load_positions(table: &RingTable, seat: &mut RingSeat) -> (u64, u6
     requires sized { table.now.shared.table_id.words ≡ table.now.shared.key + 3 }
     requires takes { seat.old.me.0.reads ≡ true }
     ensures seated { seat.new.table_id ≡ seat.old.table_id }
-    ensures looked { seat.new.me ≡ with_reader seat.old.me (looked_at_write result.1 (looked_at_read result.0 seat.old.me.0.reader)) }
+    ensures looked { seat.new.me ≡ with_reader seat.old.me (after_write_look result.1 (after_read_look result.0 seat.old.me.0.reader)) }
     ensures within { result.0 ≤ result.1 }
 {
-    let read = table.shared.load::<LookAtRead>(seat, READ_POSITION);
-    let written = table.shared.load::<LookAtWrite>(seat, WRITE_POSITION);
+    let read = table.shared.load::<ReaderLoadsRead>(seat, READ_POSITION);
+    let written = table.shared.load::<ReaderLoadsWrite>(seat, WRITE_POSITION);
     (read, written)
 }
 
@@ -35,15 +35,15 @@ pub(super) fn take(
     requires takes { seat.old.me.0.reads ≡ true }
     requires place { slot ≡ slot_of table.now.shared.key read }
     requires loaded { (read ≡ seat.old.me.0.reader.seen_read) × (seat.old.me.0.reader.seen_write ≡ Some written) }
-    requires queued { read < written }
+    requires queued_count { read < written }
     ensures seated { seat.new.table_id ≡ seat.old.table_id }
-    ensures taken { IfSome result (λ value. seat.new.me ≡ with_reader seat.old.me (took value seat.old.me.0.reader)) }
+    ensures taken { IfSome result (λ value. seat.new.me ≡ with_reader seat.old.me (after_take value seat.old.me.0.reader)) }
     ensures fewer { IfSome result (λ value. length seat.old.me.0.reader.received ≤ read) }
-    ensures lost { IfNone result (seat.new.me ≡ with_reader seat.old.me (missed seat.old.me.0.reader)) }
+    ensures lost { IfNone result (seat.new.me ≡ with_reader seat.old.me (after_miss seat.old.me.0.reader)) }
 {
-    let value = table.shared.load::<LookAtSlot>(seat, slot);
+    let value = table.shared.load::<ReaderLoadsSlot>(seat, slot);
     let found = table
         .shared
-        .compare_exchange::<Take>(seat, READ_POSITION, read, read + 1);
+        .compare_exchange::<ReaderExchangesRead>(seat, READ_POSITION, read, read + 1);
     if found == read { Some(value) } else { None }
 }

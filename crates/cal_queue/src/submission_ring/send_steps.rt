@@ -3,10 +3,10 @@
 ghost use Rattle.std.specs.Prelude.{◌≡◌, ◌+◌, ◌-◌, ◌^◌, ◌<◌, ◌≤◌, true, false, None, length};
 ghost use Rattle.std.specs.Bool.{OnTrue, OnFalse};
 ghost use Rattle.cal_queue.specs.Sides.{with_writer};
-ghost use Rattle.cal_queue.specs.SubmissionPass.{loaded_read, stored_slot, stored_write, won_exchange, lost_exchange, IsIdle};
+ghost use Rattle.cal_queue.specs.SubmissionPass.{after_read_load, after_slot_store, after_write_store, after_won_exchange, after_lost_exchange, IsIdle};
 ghost use Rattle.cal_queue.specs.SubmissionRule.{slot_of};
 
-use super::plays::{Displace, LoadRead, StoreSlot, StoreWrite};
+use super::plays::{WriterExchangesRead, WriterLoadsRead, WriterStoresSlot, WriterStoresWrite};
 use super::rule::{RingSeat, RingTable};
 use crate::ring_words::{READ_POSITION, WRITE_POSITION};
 
@@ -16,11 +16,11 @@ pub(super) fn load_read(table: &RingTable, seat: &mut RingSeat) -> u64
     requires sends { seat.old.me.0.writes ≡ true }
     requires idle { IsIdle seat.old.me.0.writer }
     ensures seated { seat.new.table_id ≡ seat.old.table_id }
-    ensures loaded { seat.new.me ≡ with_writer seat.old.me (loaded_read result seat.old.me.0.writer) }
+    ensures loaded { seat.new.me ≡ with_writer seat.old.me (after_read_load result seat.old.me.0.writer) }
     ensures within { result ≤ length seat.old.me.0.writer.sent }
     ensures room { length seat.old.me.0.writer.sent ≤ result + seat.old.me.0.writer.buffer }
 {
-    table.shared.load::<LoadRead>(seat, READ_POSITION)
+    table.shared.load::<WriterLoadsRead>(seat, READ_POSITION)
 }
 
 /// Stores the value into its slot, and then the write position behind it.
@@ -34,16 +34,16 @@ pub(super) fn append(table: &RingTable, seat: &mut RingSeat, slot: usize, writte
     requires room { written ≤ seat.old.me.0.writer.seen_read + table.now.shared.key }
     requires counts { written < 2 ^ 64 - 1 }
     ensures seated { seat.new.table_id ≡ seat.old.table_id }
-    ensures appended { seat.new.me ≡ with_writer seat.old.me (stored_write value (stored_slot value seat.old.me.0.writer)) }
+    ensures appended { seat.new.me ≡ with_writer seat.old.me (after_write_store value (after_slot_store value seat.old.me.0.writer)) }
 {
-    table.shared.store::<StoreSlot>(seat, slot, value);
+    table.shared.store::<WriterStoresSlot>(seat, slot, value);
     table
         .shared
-        .store::<StoreWrite>(seat, WRITE_POSITION, written + 1);
+        .store::<WriterStoresWrite>(seat, WRITE_POSITION, written + 1);
 }
 
 /// Tries to move the read position on by one, and answers whether it did.
-pub(super) fn displace(table: &RingTable, seat: &mut RingSeat, read: u64) -> bool
+pub(super) fn exchange_read(table: &RingTable, seat: &mut RingSeat, read: u64) -> bool
     requires seated { seat.old.table_id ≡ table.now.shared.table_id }
     requires sized { table.now.shared.table_id.words ≡ table.now.shared.key + 3 }
     requires sends { seat.old.me.0.writes ≡ true }
@@ -51,12 +51,12 @@ pub(super) fn displace(table: &RingTable, seat: &mut RingSeat, read: u64) -> boo
     requires loaded { read ≡ seat.old.me.0.writer.seen_read }
     requires counts { read < 2 ^ 64 - 1 }
     ensures seated { seat.new.table_id ≡ seat.old.table_id }
-    ensures won { OnTrue result (seat.new.me ≡ with_writer seat.old.me (won_exchange seat.old.me.0.writer)) }
-    ensures fewer { OnTrue result (length seat.old.me.0.writer.returned < length seat.old.me.0.writer.sent) }
-    ensures lost { OnFalse result (seat.new.me ≡ with_writer seat.old.me (lost_exchange seat.old.me.0.writer)) }
+    ensures won { OnTrue result (seat.new.me ≡ with_writer seat.old.me (after_won_exchange seat.old.me.0.writer)) }
+    ensures fewer { OnTrue result (length seat.old.me.0.writer.overflowed < length seat.old.me.0.writer.sent) }
+    ensures lost { OnFalse result (seat.new.me ≡ with_writer seat.old.me (after_lost_exchange seat.old.me.0.writer)) }
 {
     let found = table
         .shared
-        .compare_exchange::<Displace>(seat, READ_POSITION, read, read + 1);
+        .compare_exchange::<WriterExchangesRead>(seat, READ_POSITION, read, read + 1);
     found == read
 }

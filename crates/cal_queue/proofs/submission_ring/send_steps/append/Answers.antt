@@ -1,9 +1,9 @@
 use Rattle.std.proofs.Common.{arith, length, ◌∙◌, ap}
 use Rattle.cal_queue.specs.SubmissionRule.{slot_of}
 use Rattle.cal_queue.specs.SubmissionSteps.{End}
-use Rattle.cal_queue.proofs.SubmissionAllowed.{store_slot_allowed, store_write_allowed}
+use Rattle.cal_queue.proofs.SubmissionAllowed.{writer_stores_slot-allowed, writer_stores_write-allowed}
 use Rattle.cal_queue.proofs.SubmissionKeeps.{slot_within}
-use Rattle.cal_queue.proofs.submission_ring.sender_steps.append.Goals as goal
+use Rattle.cal_queue.proofs.submission_ring.send_steps.append.Goals as goal
 
 pub store-requires : goal.store-requires
 store-requires c =
@@ -11,7 +11,7 @@ store-requires c =
     let within = slot_within key c.args.written in (
       c.requires.seated,
       omega arith,
-      store_slot_allowed _ _ _ _ c.requires.sends c.requires.idle _ _ (c.requires.place ∙ ap (slot_of key) c.requires.next) (omega arith) (omega arith),
+      writer_stores_slot-allowed _ _ _ _ c.requires.sends c.requires.idle _ _ (c.requires.place ∙ ap (slot_of key) c.requires.next) (omega arith) (omega arith),
     )
 
 pub store-requires-2 : goal.store-requires-2
@@ -20,5 +20,5 @@ store-requires-2 c =
     let same = ap (λ (m : End). length m.0.writer.sent) filled in (
       c.store.ensures.0 ∙ c.requires.seated,
       omega arith,
-      store_write_allowed _ _ _ _ (ap (λ (m : End). m.0.writes) filled ∙ c.requires.sends) _ _ (ap (λ (m : End). m.0.writer.to_send) filled) (omega arith),
+      writer_stores_write-allowed _ _ _ _ (ap (λ (m : End). m.0.writes) filled ∙ c.requires.sends) _ _ (ap (λ (m : End). m.0.writer.to_send) filled) (omega arith),
     )

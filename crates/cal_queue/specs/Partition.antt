@@ -1,4 +1,4 @@
--- How the values sent are spread over those received and those that were given back to the sender.
+-- How the values sent are parted into those received, those that overflowed, and those that are left.
 use Rattle.std.specs.Prelude.{◌≡◌, ℕ, ◌+◌, ◌<◌, ◌≤◌, ◌⊎◌, List, length, slice_get, Some}
 
 -- the positions rise
@@ -13,14 +13,14 @@ HasPosition entries position = (i : ℕ) × (value : ℕ) × (slice_get entries 
 abbrev pub AsSent : List ℕ → List (ℕ × ℕ) → Type 0
 AsSent sent entries = (i position value : ℕ) → slice_get entries i ≡ Some (position, value) → slice_get sent position ≡ Some value
 
--- The positions received and those given back rise, no position is among both, and together they are the first positions
+-- The positions received and those that overflowed rise, no position is among both, and together they are the first positions
 -- sent; each has the value that was sent there
-pub record IsSpread (sent : List ℕ) (received returned : List (ℕ × ℕ)) : Type 0 where
+pub record IsPartition (sent : List ℕ) (received overflowed : List (ℕ × ℕ)) : Type 0 where
   pub received_rise : Rises received
-  pub returned_rise : Rises returned
+  pub overflowed_rise : Rises overflowed
   pub received_as_sent : AsSent sent received
-  pub returned_as_sent : AsSent sent returned
-  pub disjoint : (position : ℕ) → HasPosition received position → HasPosition returned position → ⊥
-  pub first_positions : (position : ℕ) → position < length received + length returned → HasPosition received position ⊎ HasPosition returned position
-  pub no_others : (position : ℕ) → HasPosition received position ⊎ HasPosition returned position → position < length received + length returned
-  pub within_sent : length received + length returned ≤ length sent
+  pub overflowed_as_sent : AsSent sent overflowed
+  pub disjoint : (position : ℕ) → HasPosition received position → HasPosition overflowed position → ⊥
+  pub first_positions : (position : ℕ) → position < length received + length overflowed → HasPosition received position ⊎ HasPosition overflowed position
+  pub no_others : (position : ℕ) → HasPosition received position ⊎ HasPosition overflowed position → position < length received + length overflowed
+  pub within_sent : length received + length overflowed ≤ length sent

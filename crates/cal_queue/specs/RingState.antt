@@ -1,0 +1,86 @@
+-- A channel by what happened on it. Values are sent into a queue, and each leaves the queue by being received, or by
+-- overflowing back to the sender. What was received is later released to the sender, who reclaims it. No words of memory
+-- are spoken of here: a ring's rule says which channel its words show.
+use Rattle.std.specs.Prelude.{◌≡◌, ℕ, ◌+◌, ◌-◌, ◌<◌, ◌≤◌, Bool, true, false, List, [], ◌∷◌, ◌++◌, length, if◌then◌else◌}
+
+-- how a value left the queue
+pub data Tag : Type 0 where
+  received : Tag
+  overflowed : Tag
+
+pub record RingState : Type 0 where
+  -- the values sent, the first one first; a value's place in this list is its position
+  pub sent : List ℕ
+  -- how the values at the first positions left the queue; the other positions are queued_count
+  pub tags : List Tag
+  -- the values released, the first one first
+  pub released : List ℕ
+  -- how many of these were reclaimed
+  pub reclaimed : ℕ
+
+-- the channel on which nothing has happened
+abbrev pub unused_state : RingState
+unused_state = record { sent = []; tags = []; released = []; reclaimed = 0 }
+
+abbrev pub queued_count : RingState → ℕ
+queued_count c = length c.sent - length c.tags
+
+abbrev pub unreclaimed_count : RingState → ℕ
+unreclaimed_count c = length c.released - c.reclaimed
+
+pub data Event : Type 0 where
+  sends : ℕ → Event
+  overflows : Event
+  receives : Event
+  releases : ℕ → Event
+  reclaims : Event
+
+-- how many values may be queued_count between two calls, and how many may be released and not reclaimed
+pub record Bounds : Type 0 where
+  pub buffer : ℕ
+  pub completion : ℕ
+
+-- when each event may happen. One more value than the buffer holds is queued_count between a send and the overflow that it causes
+abbrev pub MayHappen : Bounds → RingState → Event → Type 0
+MayHappen b c (sends value) = queued_count c ≤ b.buffer
+MayHappen b c overflows = queued_count c ≡ b.buffer + 1
+MayHappen b c receives = 1 ≤ queued_count c
+MayHappen b c (releases value) = unreclaimed_count c < b.completion
+MayHappen b c reclaims = 1 ≤ unreclaimed_count c
+
+abbrev pub after_event : RingState → Event → RingState
+after_event c (sends value) = record c { sent = c.sent ++ value ∷ [] }
+after_event c overflows = record c { tags = c.tags ++ overflowed ∷ [] }
+after_event c receives = record c { tags = c.tags ++ received ∷ [] }
+after_event c (releases value) = record c { released = c.released ++ value ∷ [] }
+after_event c reclaims = record c { reclaimed = c.reclaimed + 1 }
+
+-- these events lead from one channel to another, each allowed where it happens
+abbrev pub IsSchedule : Bounds → RingState → List Event → RingState → Type 0
+IsSchedule b c [] d = c ≡ d
+IsSchedule b c (e ∷ es) d = MayHappen b c e × IsSchedule b (after_event c e) es d
+
+-- some schedule leads from the unused_state channel to this one
+abbrev pub IsReached : Bounds → RingState → Type 0
+IsReached b c = (events : List Event) × IsSchedule b unused_state events c
+
+abbrev pub is_same_tag : Tag → Tag → Bool
+is_same_tag received received = true
+is_same_tag received overflowed = false
+is_same_tag overflowed received = false
+is_same_tag overflowed overflowed = true
+
+-- the positions with this tag, each with the value that was sent there; `first` is the position of the first tag
+abbrev pub tagged_positions : Tag → ℕ → List Tag → List ℕ → List (ℕ × ℕ)
+tagged_positions tag first [] values = []
+tagged_positions tag first (t ∷ ts) [] = []
+tagged_positions tag first (t ∷ ts) (v ∷ vs) =
+    if is_same_tag t tag then (first, v) ∷ tagged_positions tag (first + 1) ts vs else tagged_positions tag (first + 1) ts vs
+
+-- the positions that were received, each with the value that was sent there
+abbrev pub received_positions : RingState → List (ℕ × ℕ)
+received_positions c = tagged_positions received 0 c.tags c.sent
+
+-- the positions that overflowed, each with the value that was sent there
+abbrev pub overflowed_positions : RingState → List (ℕ × ℕ)
+overflowed_positions c = tagged_positions overflowed 0 c.tags c.sent
