@@ -4,9 +4,10 @@ use Rattle.std.proofs.lemmas.List.{get_or-replicate, length-replicate, set-get_o
 use Rattle.std.specs.Option.{option_to_list}
 use mathlib.Core.Option.{none}
 use Rattle.atomic_table.specs.Table.{Allows, opening, step}
-use Rattle.cal_queue.specs.RingState.{releases, reclaims}
+use Rattle.cal_queue.specs.RingState.{IsCompleted, releases, reclaims, ring_state}
+use Rattle.cal_queue.specs.RingWords.{slot_of}
 use Rattle.cal_queue.specs.CompletionPass.{after_read_load, after_slot_look, after_write_look, new_get_pass, new_put_pass, after_read_store, after_slot_store, after_write_store}
-use Rattle.cal_queue.specs.CompletionRule.{Fits, IsSoundTable, IsCompleted, IsSoundRing, new_view, slot_of}
+use Rattle.cal_queue.specs.CompletionRule.{Fits, IsSoundRing, IsSoundTable, new_view}
 use Rattle.cal_queue.specs.CompletionSteps.{End, WriterLoadsRead, ReaderLoadsSlot, ReaderLoadsWrite, Settles, ReaderStoresRead, WriterStoresSlot, WriterStoresWrite}
 use Rattle.cal_queue.specs.declared.completion_ring.pass.PutPass.{PutPass}
 use Rattle.cal_queue.specs.declared.completion_ring.pass.GetPass.{GetPass}
@@ -25,11 +26,13 @@ looked capacity i words writer reader sound = subst (λ (w : List ℕ). Sound ca
 -- one value more is released
 released-more : (capacity : ℕ) (put got : List ℕ) (value : ℕ) → length put < length got + capacity → length got ≤ length put
     → IsCompleted capacity put (length got) → IsCompleted capacity (put ++ value ∷ []) (length got)
-released-more capacity put got value room within completed buffer = IsReached-more _ _ (releases value) (completed buffer) (omega arith)
+released-more capacity put got value room within completed buffer sent tags submitted =
+    IsReached-more _ (ring_state sent tags put (length got)) (releases value) (completed buffer sent tags submitted) (omega arith)
 
 -- and one more is reclaimed
 reclaimed-more : (capacity : ℕ) (put : List ℕ) (got : ℕ) → got < length put → IsCompleted capacity put got → IsCompleted capacity put (got + 1)
-reclaimed-more capacity put got below completed buffer = IsReached-more _ _ reclaims (completed buffer) (omega arith)
+reclaimed-more capacity put got below completed buffer sent tags submitted =
+    IsReached-more _ (ring_state sent tags put got) reclaims (completed buffer sent tags submitted) (omega arith)
 
 module _ (capacity slots seat : ℕ) (me : End) where
   pub writer_loads_read-allowed : me.0.writes ≡ true → me.0.writer.to_put ≡ None
@@ -41,7 +44,7 @@ module _ (capacity slots seat : ℕ) (me : End) where
         record {
           loaded = refl;
           within = (let h = W.read_position in let h' = W.read_within in omega arith);
-          room = (let h = W.read_position in let h' = W.room in omega arith);
+          room = (let h = W.read_position in let h' = sound.fits.values_fit.room in omega arith);
         },
       ))
 
@@ -106,9 +109,9 @@ module _ (capacity slots seat : ℕ) (me : End) where
       (λ words sound. let W = sound.fits.words_fit in record {
         same = refl;
         settled = record {
-          got_first = W.got_first;
+          got_first = sound.fits.values_fit.got_first;
           read_within = W.read_within;
-          room = let room = W.room in let sized = sound.fits.writer_fits.sized in omega arith;
+          room = let room = sound.fits.values_fit.room in let sized = sound.fits.writer_fits.sized in omega arith;
           completed = subst (λ (c : ℕ). IsCompleted c me.0.writer.put (length me.0.reader.got)) (sym sound.fits.writer_fits.sized) sound.reached;
         };
       })
@@ -119,5 +122,5 @@ new_ring-sound capacity words some are = opens (Sound capacity) words [] (new_pu
   fits = new_ring-fits capacity words some (ap (λ (w : List ℕ). length w) are ∙ length-replicate (capacity + 2) 0)
       (ap (λ (w : List ℕ). get_or w 0 0) are ∙ get_or-replicate (capacity + 2) 0 0 0 (omega arith))
       (ap (λ (w : List ℕ). get_or w 1 0) are ∙ get_or-replicate (capacity + 2) 1 0 0 (omega arith));
-  reached = λ buffer. ([], refl);
+  reached = λ buffer sent tags submitted. submitted;
 })

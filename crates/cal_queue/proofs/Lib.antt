@@ -4,6 +4,7 @@ pub mod CompletionRuns
 pub mod LastValues
 pub mod Members
 pub mod OneSideEach
+pub mod RingWordsFit
 pub mod Schedules
 pub mod SidedTables
 pub mod StateSteps

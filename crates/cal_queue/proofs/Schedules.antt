@@ -6,11 +6,6 @@ pub IsSchedule-more : (b : Bounds) (c d : RingState) (events : List Event) (e : 
 IsSchedule-more b c d [] e is may = (subst (λ (x : RingState). MayHappen b x e) (sym is) may, ap (λ (x : RingState). after_event x e) is)
 IsSchedule-more b c d (x ∷ xs) e is may = (is.0, IsSchedule-more b (after_event c x) d xs e is.1 may)
 
--- two schedules, one after_event the other
-pub IsSchedule-joined : (b : Bounds) (c d x : RingState) (events more : List Event) → IsSchedule b c events d → IsSchedule b d more x → IsSchedule b c (events ++ more) x
-IsSchedule-joined b c d x [] more is rest = subst (λ (y : RingState). IsSchedule b y more x) (sym is) rest
-IsSchedule-joined b c d x (e ∷ es) more is rest = (is.0, IsSchedule-joined b (after_event c e) d x es more is.1 rest)
-
 pub IsReached-more : (b : Bounds) (c : RingState) (e : Event) → IsReached b c → MayHappen b c e → IsReached b (after_event c e)
 IsReached-more b c e reached may = (reached.0 ++ e ∷ [], IsSchedule-more b _ c reached.0 e reached.1 may)
 

@@ -1,14 +1,16 @@
 -- The table of a submission ring allows each step of its ends.
-use Rattle.std.proofs.Common.{◌≡◌, ◌≢◌, ℕ, ◌+◌, ◌-◌, ◌^◌, ◌<◌, ◌≤◌, Bool, true, cond, List, [], ◌∷◌, ◌++◌, length, get_or, set, replicate, Some, eqb, refl, sym, ap, ◌∙◌, subst, ⊎_elim, arith, eq-eqb, ne_eqb}
+use Rattle.std.proofs.Common.{◌≡◌, ◌≢◌, ℕ, ◌+◌, ◌-◌, ◌^◌, ◌<◌, ◌≤◌, Bool, true, cond, List, [], ◌∷◌, ◌++◌, length, get_or, set, replicate, Option, Some, eqb, refl, sym, ap, ◌∙◌, subst, ⊎_elim, arith, eq-eqb, ne_eqb}
 use Rattle.std.proofs.lemmas.Bool.{cases_eq}
 use Rattle.std.proofs.lemmas.List.{set-get_or, length-replicate, get_or-replicate}
+use Rattle.std.specs.Option.{option_to_list}
 use prog.Atomic.{either}
 use mathlib.Core.Option.{none}
 use Rattle.atomic_table.specs.Table.{Allows, step, opening}
-use Rattle.cal_queue.specs.RingState.{received, overflowed, sends, overflows, receives}
+use Rattle.cal_queue.specs.RingState.{IsSubmitted, received, overflowed, sends, overflows, receives, ring_state}
 use Rattle.cal_queue.specs.Sides.{with_writer, with_reader}
 use Rattle.cal_queue.specs.SubmissionPass.{new_send_pass, new_take_pass, after_read_load, after_slot_store, after_write_store, after_won_exchange, after_lost_exchange, after_read_look, after_write_look, after_slot_look, after_take, after_miss, IsIdle}
-use Rattle.cal_queue.specs.SubmissionRule.{Fits, IsSoundRing, IsSoundTable, new_view, slot_of, submitted, IsSubmitted}
+use Rattle.cal_queue.specs.RingWords.{slot_of}
+use Rattle.cal_queue.specs.SubmissionRule.{Fits, IsSoundRing, IsSoundTable, new_view}
 use Rattle.cal_queue.specs.SubmissionSteps.{End, WriterLoadsRead, WriterStoresSlot, WriterStoresWrite, WriterExchangesRead, ReaderLoadsRead, ReaderLoadsWrite, ReaderLoadsSlot, ReaderExchangesRead, Settles}
 use Rattle.cal_queue.specs.declared.submission_ring.pass.SendPass.{SendPass}
 use Rattle.cal_queue.specs.declared.submission_ring.pass.TakePass.{TakePass}
@@ -42,7 +44,7 @@ module _ (buffer slots seat : ℕ) (me : End) where
           (refl, omega arith, omega arith),
         ))
 
-    pub writer_stores_slot-allowed : IsIdle writer → (slot value : ℕ) → slot ≡ slot_of buffer (length writer.sent) → length writer.sent ≤ writer.seen_read + buffer → length writer.sent < 2 ^ 64 - 1
+    pub writer_stores_slot-allowed : IsIdle writer → (slot value : ℕ) → slot ≡ slot_of (buffer + 1) (length writer.sent) → length writer.sent ≤ writer.seen_read + buffer → length writer.sent < 2 ^ 64 - 1
         → Allows (IsSoundTable buffer) slots seat me slot (λ _. value) (λ _. WriterStoresSlot (step slots slot value 0 none) me value)
     writer_stores_slot-allowed idle slot value here room counts = writer_allowed (IsSoundRing buffer) slots seat me slot (λ _. value) (λ _. WriterStoresSlot (step slots slot value 0 none) me value) (λ _. after_slot_store value writer) writes
         (λ words q below shows. (
@@ -52,15 +54,17 @@ module _ (buffer slots seat : ℕ) (me : End) where
 
     pub writer_stores_write-allowed : (position value : ℕ) → writer.to_send ≡ Some value → position ≡ length writer.sent + 1
         → Allows (IsSoundTable buffer) slots seat me 1 (λ _. position) (λ _. WriterStoresWrite (step slots 1 position 0 none) me position)
-    writer_stores_write-allowed position value pending next = writer_allowed (IsSoundRing buffer) slots seat me 1 (λ _. position) (λ _. WriterStoresWrite (step slots 1 position 0 none) me position) (λ _. after_write_store value writer) writes
+    writer_stores_write-allowed position value pending next = writer_allowed (IsSoundRing buffer) slots seat me 1 (λ _. position) (λ _. WriterStoresWrite (step slots 1 position 0 none) me position) (λ _. after_write_store writer) writes
         (λ words q below shows.
         let room = pending_room buffer words writer q shows.0 shows.1 value pending in (
           (
             shows.0,
-            subst (λ (k : ℕ). Fits buffer (set words 1 k) (after_write_store value writer) q shows.0) (sym next) (writer_stores_write-fits buffer words writer q shows.0 shows.1 value pending),
-            λ completion. IsReached-more _ (submitted writer.sent shows.0) (sends value) (shows.2 completion) (omega arith),
+            subst (λ (k : ℕ). Fits buffer (set words 1 k) (after_write_store writer) q shows.0) (sym next)
+                (writer_stores_write-fits buffer words writer q shows.0 shows.1 value pending),
+            subst (λ (o : Option ℕ). IsSubmitted buffer (writer.sent ++ option_to_list o) shows.0) (sym pending)
+                (λ completion. IsReached-more _ (ring_state writer.sent shows.0 [] 0) (sends value) (shows.2 completion) (omega arith)),
           ),
-          λ other is. let same : other ≡ value = cc in ap (λ (v : ℕ). with_writer me (after_write_store v writer)) (sym same),
+          refl,
         ))
 
     pub writer_exchanges_read-allowed : (read : ℕ) → read ≡ writer.seen_read → writer.exchange_due ≡ true
@@ -87,7 +91,7 @@ module _ (buffer slots seat : ℕ) (me : End) where
               (
                 shows.0 ++ overflowed ∷ [],
                 subst (λ (k : ℕ). Fits buffer (set words 0 (k + 1)) (after_won_exchange writer) q (shows.0 ++ overflowed ∷ [])) (sym loaded) (writer_wins-fits buffer words writer q shows.0 fits due there),
-                λ completion. IsReached-more _ (submitted writer.sent shows.0) overflows (shows.2 completion) (omega arith),
+                λ completion. IsReached-more _ (ring_state writer.sent shows.0 [] 0) overflows (shows.2 completion) (omega arith),
               ),
               (λ same. (refl, omega arith), λ other. absurd (other there)),
             )
@@ -116,7 +120,7 @@ module _ (buffer slots seat : ℕ) (me : End) where
           (refl, omega arith),
         ))
 
-    pub reader_loads_slot-allowed : (slot write : ℕ) → slot ≡ slot_of buffer reader.seen_read → reader.seen_write ≡ Some write → reader.seen_read < write
+    pub reader_loads_slot-allowed : (slot write : ℕ) → slot ≡ slot_of (buffer + 1) reader.seen_read → reader.seen_write ≡ Some write → reader.seen_read < write
         → Allows (IsSoundTable buffer) slots seat me slot (λ n. n) (ReaderLoadsSlot (step slots slot 0 0 none) me)
     reader_loads_slot-allowed slot write here seen behind = reader_allowed (IsSoundRing buffer) slots seat me slot (λ n. n) (ReaderLoadsSlot (step slots slot 0 0 none) me) (λ n. after_slot_look n reader) reads
         (λ words p below shows. (
@@ -131,11 +135,11 @@ module _ (buffer slots seat : ℕ) (me : End) where
         (λ words p below shows. ⊎_elim (won words p shows) (lost words p shows) (cases_eq (get_or words 0 0) read))
       where
         next : ℕ → TakePass
-        next n = cond (eqb n read) (after_take value reader) (after_miss reader)
+        next n = cond (eqb n read) (after_take reader) (after_miss reader)
 
         Done : List ℕ → SendPass → Bool → Type 0
-        Done words p b = IsSoundRing buffer (set words 0 (either b (read + 1) (get_or words 0 0))) p (cond b (after_take value reader) (after_miss reader))
-            × ReaderExchangesRead (step slots 0 read (read + 1) none) me (get_or words 0 0) (with_reader me (cond b (after_take value reader) (after_miss reader)))
+        Done words p b = IsSoundRing buffer (set words 0 (either b (read + 1) (get_or words 0 0))) p (cond b (after_take reader) (after_miss reader))
+            × ReaderExchangesRead (step slots 0 read (read + 1) none) me (get_or words 0 0) (with_reader me (cond b (after_take reader) (after_miss reader)))
 
         won : (words : List ℕ) (p : SendPass) → IsSoundRing buffer words p reader → get_or words 0 0 ≡ read → Done words p (eqb (get_or words 0 0) read)
         won words p shows hit =
@@ -148,10 +152,10 @@ module _ (buffer slots seat : ℕ) (me : End) where
             subst (Done words p) (sym (eq-eqb _ _ hit)) (
               (
                 shows.0 ++ received ∷ [],
-                subst (λ (k : ℕ). Fits buffer (set words 0 (k + 1)) p (after_take value reader) (shows.0 ++ received ∷ [])) (sym loaded) (reader_wins-fits buffer words p reader shows.0 fits value has there),
-                λ completion. IsReached-more _ (submitted p.sent shows.0) receives (shows.2 completion) (omega arith),
+                subst (λ (k : ℕ). Fits buffer (set words 0 (k + 1)) p (after_take reader) (shows.0 ++ received ∷ [])) (sym loaded) (reader_wins-fits buffer words p reader shows.0 fits value has there),
+                λ completion. IsReached-more _ (ring_state p.sent shows.0 [] 0) receives (shows.2 completion) (omega arith),
               ),
-              (λ same. (omega arith, λ other is. let one : other ≡ value = cc in ap (λ (v : ℕ). with_reader me (after_take v reader)) (sym one)), λ other. absurd (other there)),
+              (λ same. (omega arith, refl), λ other. absurd (other there)),
             )
 
         lost : (words : List ℕ) (p : SendPass) → IsSoundRing buffer words p reader → get_or words 0 0 ≢ read → Done words p (eqb (get_or words 0 0) read)

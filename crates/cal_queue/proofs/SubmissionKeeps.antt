@@ -1,43 +1,22 @@
 -- Each step of either end of a submission ring keeps the words and the passes fitting together, from any state in which
 -- they do.
-use Rattle.std.proofs.Common.{◌≡◌, ◌≢◌, ℕ, ◌+◌, ◌-◌, ◌%◌, ◌^◌, ◌<◌, ◌≤◌, Bool, true, false, List, [], ◌∷◌, ◌++◌, length, get_or, set, Some, eqb, refl, sym, ap, ◌∙◌, ⊎_elim, arith, length-append, eq-eqb, eqb-true}
-use Rattle.std.proofs.lemmas.Bool.{false≢true, cases_lt}
-use Rattle.std.proofs.lemmas.Nat.{mod_below}
-use Rattle.std.proofs.lemmas.List.{length-set, get_or-set_same, get_or-set_other, get_or_append_left, get_or_at, append-nil}
-use Rattle.atomic_table.proofs.Lists.{one_turn}
+use Rattle.std.proofs.Common.{◌≡◌, ◌≢◌, ℕ, ◌+◌, ◌-◌, ◌^◌, ◌<◌, ◌≤◌, Bool, true, false, List, [], ◌∷◌, ◌++◌, length, get_or, map, set, Option, Some, None, eqb, refl, sym, ap, ◌∙◌, subst, arith, length-append, eq-eqb, eqb-true}
+use Rattle.std.proofs.lemmas.Bool.{false≢true}
+use Rattle.std.proofs.lemmas.List.{append-nil}
+use Rattle.std.specs.Option.{option_to_list}
 use Rattle.cal_queue.specs.RingState.{Tag, received, overflowed, tagged_positions}
-use Rattle.cal_queue.specs.SubmissionPass.{new_send_pass, new_take_pass, after_read_load, after_slot_store, after_write_store, after_won_exchange, after_lost_exchange, after_read_look, after_write_look, after_slot_look, after_take, after_miss, IsIdle}
-use Rattle.cal_queue.specs.SubmissionRule.{WordsFit, WriterFits, ReaderFits, Fits, slot_of}
+use Rattle.cal_queue.specs.RingWords.{WordsFit, slot_of}
+use Rattle.cal_queue.specs.SubmissionPass.{IsIdle, after_lost_exchange, after_miss, after_read_load, after_read_look, after_slot_look, after_slot_store, after_take, after_won_exchange, after_write_look, after_write_store, new_send_pass, new_take_pass}
+use Rattle.cal_queue.specs.SubmissionRule.{Fits, ReaderFits, WriterFits}
 use Rattle.cal_queue.specs.declared.submission_ring.pass.SendPass.{SendPass}
 use Rattle.cal_queue.specs.declared.submission_ring.pass.TakePass.{TakePass}
+use Rattle.cal_queue.proofs.RingWordsFit.{WordsFit-new, WordsFit-read, WordsFit-slot, WordsFit-written, grown-before, next_slot-stored, slot-after_store}
 use Rattle.cal_queue.proofs.Schedules.{tagged_positions-sent, tagged_positions-tag}
 
--- ---- slots
-
-pub slot_within : (buffer position : ℕ) → slot_of buffer position < buffer + 3
-slot_within buffer position = let h = mod_below position (buffer + 1) (omega arith) in omega arith
-
--- positions less than the ring's size apart have slots of their own
-slots_apart : (buffer p q : ℕ) → p < q → q ≤ p + buffer → slot_of buffer p ≢ slot_of buffer q
-slots_apart buffer p q below near e =
-    let x : ℕ = p % (buffer + 1) in
-    let y : ℕ = q % (buffer + 1) in
-    let e' : x + 2 ≡ y + 2 = e in
-    let same : x ≡ y = omega arith in
-    let one = one_turn p q (buffer + 1) (omega arith) (omega arith) same in omega arith
-
--- ---- a new ring
-
-pub new_ring-fits : (buffer : ℕ) (words : List ℕ) → length words ≡ buffer + 3 → get_or words 0 0 ≡ 0 → get_or words 1 0 ≡ 0
-    → Fits buffer words (new_send_pass buffer) (new_take_pass buffer) []
+pub new_ring-fits : (buffer : ℕ) (words : List ℕ) → length words ≡ buffer + 3
+    → get_or words 0 0 ≡ 0 → get_or words 1 0 ≡ 0 → Fits buffer words (new_send_pass buffer) (new_take_pass buffer) []
 new_ring-fits buffer words sized read written = record {
-  words_fit = record {
-    sized = sized;
-    read_position = read;
-    write_position = written;
-    read_within = omega arith;
-    queued_in_slots = λ p from below. absurd (omega arith);
-  };
+  words_fit = WordsFit-new (buffer + 1) words (omega arith) read written;
   writer_fits = record {
     sized = refl;
     overflowed_tagged = refl;
@@ -62,7 +41,10 @@ new_ring-fits buffer words sized read written = record {
 }
 
 module _ (buffer : ℕ) (words : List ℕ) (writer : SendPass) (reader : TakePass) (tags : List Tag) (fits : Fits buffer words writer reader tags) where
-  abbrev W : WordsFit buffer words writer.sent tags
+  abbrev slots : ℕ
+  slots = buffer + 1
+
+  abbrev W : WordsFit slots words writer.sent (length tags)
   W = fits.words_fit
 
   abbrev X : WriterFits buffer words tags writer
@@ -70,9 +52,6 @@ module _ (buffer : ℕ) (words : List ℕ) (writer : SendPass) (reader : TakePas
 
   abbrev Y : ReaderFits buffer writer.sent tags reader
   Y = fits.reader_fits
-
-  abbrev next_slot : ℕ
-  next_slot = slot_of buffer (length writer.sent)
 
   -- ---- the sender
 
@@ -101,35 +80,24 @@ module _ (buffer : ℕ) (words : List ℕ) (writer : SendPass) (reader : TakePas
       reader_fits = Y;
     }
 
-    module _ (value : ℕ) (has_room : length writer.sent ≤ writer.seen_read + buffer) (counts : length writer.sent < 2 ^ 64 - 1) where
-      abbrev filled : List ℕ
-      filled = set words next_slot value
-
-      pub writer_stores_slot-fits : Fits buffer filled (after_slot_store value writer) reader tags
-      writer_stores_slot-fits = let within = slot_within buffer (length writer.sent) in
-          let size = W.sized in
-          let seen = X.read_within in record {
-            words_fit = record {
-              sized = length-set words next_slot value ∙ size;
-              read_position = let n : 0 ≢ next_slot = omega arith in get_or-set_other words next_slot 0 value 0 n ∙ W.read_position;
-              write_position = let n : 1 ≢ next_slot = omega arith in get_or-set_other words next_slot 1 value 0 n ∙ W.write_position;
-              read_within = W.read_within;
-              queued_in_slots = λ p from below. get_or-set_other words next_slot (slot_of buffer p) value 0 (slots_apart buffer p (length writer.sent) below (omega arith)) ∙ W.queued_in_slots p from below;
-            };
-            writer_fits = record {
-              sized = X.sized;
-              overflowed_tagged = X.overflowed_tagged;
-              read_within = X.read_within;
-              room = X.room;
-              due_room = X.due_room;
-              due_read = X.due_read;
-              due_none_to_send = λ due. absurd (not_due due);
-              to_send_in_slot = λ v is. get_or-set_same words next_slot value 0 (omega arith) ∙ cc;
-              to_send_room = λ v is. has_room;
-              to_send_counts = λ v is. counts;
-            };
-            reader_fits = Y;
-          }
+    pub writer_stores_slot-fits : (value : ℕ) → length writer.sent ≤ writer.seen_read + buffer → length writer.sent < 2 ^ 64 - 1
+        → Fits buffer (set words (slot_of slots (length writer.sent)) value) (after_slot_store value writer) reader tags
+    writer_stores_slot-fits value has_room counts = let seen = X.read_within in record {
+      words_fit = WordsFit-slot slots words writer.sent (length tags) W value (omega arith) (omega arith);
+      writer_fits = record {
+        sized = X.sized;
+        overflowed_tagged = X.overflowed_tagged;
+        read_within = X.read_within;
+        room = X.room;
+        due_room = X.due_room;
+        due_read = X.due_read;
+        due_none_to_send = λ due. absurd (not_due due);
+        to_send_in_slot = λ v is. next_slot-stored slots words writer.sent (length tags) W value (omega arith) ∙ cc;
+        to_send_room = λ v is. has_room;
+        to_send_counts = λ v is. counts;
+      };
+      reader_fits = Y;
+    }
 
   module _ (value : ℕ) (pending : writer.to_send ≡ Some value) where
     abbrev grown : List ℕ
@@ -138,50 +106,28 @@ module _ (buffer : ℕ) (words : List ℕ) (writer : SendPass) (reader : TakePas
     abbrev published : List ℕ
     published = set words 1 (length writer.sent + 1)
 
-    -- while a value is to be sent, no exchange is due
-    pending_not_due : writer.exchange_due ≡ true → ⊥
-    pending_not_due due = let none = X.due_none_to_send due in cc
+    abbrev full : Bool
+    full = eqb (length writer.sent) (writer.seen_read + writer.buffer)
 
     pub pending_room : length writer.sent ≤ length tags + buffer
-    pending_room = let seen = X.read_within in let near = X.to_send_room value pending in omega arith
+    pending_room = let seen = X.read_within in
+        let near = X.to_send_room value pending in omega arith
 
-    grown-before : (p : ℕ) → p < length writer.sent → get_or grown p 0 ≡ get_or writer.sent p 0
-    grown-before p below = get_or_append_left writer.sent (value ∷ []) 0 p below
+    is_full : full ≡ true → length writer.sent ≡ writer.seen_read + buffer
+    is_full t = eqb-true _ _ t ∙ ap (λ (k : ℕ). writer.seen_read + k) X.sized
 
-    grown-last : get_or grown (length writer.sent) 0 ≡ value
-    grown-last = get_or_at writer.sent value [] 0 (length writer.sent) refl
+    not_full : full ≡ false → length writer.sent ≢ writer.seen_read + buffer
+    not_full f e = false≢true (sym f ∙ eq-eqb _ _ (e ∙ ap (λ (k : ℕ). writer.seen_read + k) (sym X.sized)))
 
-    one_more : length grown ≡ length writer.sent + 1
-    one_more = length-append writer.sent (value ∷ [])
-
-    in_slot : (p : ℕ) → length tags ≤ p → p < length grown → get_or published (slot_of buffer p) 0 ≡ get_or grown p 0
-    in_slot p from below =
-        let n : slot_of buffer p ≢ 1 = omega arith in
-        let long = one_more in
-        get_or-set_other words 1 (slot_of buffer p) (length writer.sent + 1) 0 n
-        ∙ ⊎_elim (λ old. W.queued_in_slots p from old ∙ sym (grown-before p old))
-        (λ past. let last : p ≡ length writer.sent = omega arith in
-        ap (λ (k : ℕ). get_or words (slot_of buffer k) 0) last ∙ X.to_send_in_slot value pending ∙ sym grown-last ∙ ap (λ (k : ℕ). get_or grown k 0) (sym last))
-        (cases_lt p (length writer.sent))
-
-    pub writer_stores_write-fits : Fits buffer published (after_write_store value writer) reader tags
-    writer_stores_write-fits = let size = W.sized in
-        let long = one_more in
+    published_fits : Fits buffer published (record writer { sent = grown; to_send = None; exchange_due = full }) reader tags
+    published_fits = let long : length grown ≡ length writer.sent + 1 = length-append writer.sent (value ∷ []) in
         let seen = X.read_within in
-        let near = X.to_send_room value pending in
-        let full : Bool = eqb (length writer.sent) (writer.seen_read + writer.buffer) in
-        let is_full : full ≡ true → length writer.sent ≡ writer.seen_read + buffer = λ t. eqb-true _ _ t ∙ ap (λ (k : ℕ). writer.seen_read + k) X.sized in
-        let not_full : full ≡ false → length writer.sent ≢ writer.seen_read + buffer = λ f e. false≢true (sym f ∙ eq-eqb _ _ (e ∙ ap (λ (k : ℕ). writer.seen_read + k) (sym X.sized))) in record {
-          words_fit = record {
-            sized = length-set words 1 (length writer.sent + 1) ∙ size;
-            read_position = let n : 0 ≢ 1 = omega arith in get_or-set_other words 1 0 (length writer.sent + 1) 0 n ∙ W.read_position;
-            write_position = get_or-set_same words 1 (length writer.sent + 1) 0 (omega arith) ∙ sym long;
-            read_within = let h = W.read_within in omega arith;
-            queued_in_slots = in_slot;
-          };
+        let near = X.to_send_room value pending in record {
+          words_fit = WordsFit-written slots words writer.sent (length tags) W value (X.to_send_in_slot value pending);
           writer_fits = record {
             sized = X.sized;
-            overflowed_tagged = X.overflowed_tagged ∙ sym (tagged_positions-sent overflowed 0 tags writer.sent value W.read_within);
+            overflowed_tagged = X.overflowed_tagged
+                ∙ sym (tagged_positions-sent overflowed 0 tags writer.sent value W.read_within);
             read_within = X.read_within;
             room = λ due. let h = not_full due in omega arith;
             due_room = λ due. omega arith;
@@ -193,16 +139,25 @@ module _ (buffer : ℕ) (words : List ℕ) (writer : SendPass) (reader : TakePas
           };
           reader_fits = record {
             sized = Y.sized;
-            received_tagged = Y.received_tagged ∙ sym (tagged_positions-sent received 0 tags writer.sent value W.read_within);
+            received_tagged = Y.received_tagged
+                ∙ sym (tagged_positions-sent received 0 tags writer.sent value W.read_within);
             read_within = Y.read_within;
             write_within = λ write is. let h = Y.write_within write is in omega arith;
             write_not_behind = Y.write_not_behind;
             value_queued = Y.value_queued;
             value_sent = λ v is here. let q = Y.value_queued v is in
                 let behind = q.2 in
-                let within = Y.write_within q.0 q.1 in grown-before reader.seen_read (omega arith) ∙ Y.value_sent v is here;
+                let within = Y.write_within q.0 q.1 in
+                grown-before slots words writer.sent (length tags) W value reader.seen_read (omega arith)
+                ∙ Y.value_sent v is here;
           };
         }
+
+    pub writer_stores_write-fits : Fits buffer published (after_write_store writer) reader tags
+    writer_stores_write-fits = subst
+        (λ (o : Option ℕ). Fits buffer published
+        (record writer { sent = writer.sent ++ option_to_list o; to_send = None; exchange_due = full }) reader tags)
+        (sym pending) published_fits
 
   module _ (due : writer.exchange_due ≡ true) where
     due_not_pending : (value : ℕ) → writer.to_send ≡ Some value → ⊥
@@ -213,32 +168,25 @@ module _ (buffer : ℕ) (words : List ℕ) (writer : SendPass) (reader : TakePas
 
     -- the read position is still the one that was loaded
     module _ (hit : get_or words 0 0 ≡ writer.seen_read) where
-      abbrev moved : List ℕ
-      moved = set words 0 (writer.seen_read + 1)
-
       still_there : length tags ≡ writer.seen_read
       still_there = sym W.read_position ∙ hit
 
-      pub writer_wins-fits : Fits buffer moved (after_won_exchange writer) reader (tags ++ overflowed ∷ [])
-      writer_wins-fits = let size = W.sized in
-          let long = due_full in
+      pub writer_wins-fits : Fits buffer (set words 0 (writer.seen_read + 1)) (after_won_exchange writer) reader (tags ++ overflowed ∷ [])
+      writer_wins-fits = let long = due_full in
           let there = still_there in
           let more : length (tags ++ overflowed ∷ []) ≡ length tags + 1 = length-append tags (overflowed ∷ []) in
           let below : length tags < length writer.sent = omega arith in
           let back = tagged_positions-tag overflowed 0 tags overflowed writer.sent below in
           let same : 0 + length tags ≡ writer.seen_read = omega arith in record {
-            words_fit = record {
-              sized = length-set words 0 (writer.seen_read + 1) ∙ size;
-              read_position = get_or-set_same words 0 (writer.seen_read + 1) 0 (omega arith) ∙ omega arith;
-              write_position = let n : 1 ≢ 0 = omega arith in get_or-set_other words 0 1 (writer.seen_read + 1) 0 n ∙ W.write_position;
-              read_within = omega arith;
-              queued_in_slots = λ p from within. let n : slot_of buffer p ≢ 0 = omega arith in
-                  get_or-set_other words 0 (slot_of buffer p) (writer.seen_read + 1) 0 n ∙ W.queued_in_slots p (omega arith) within;
-            };
+            words_fit = WordsFit-read slots words writer.sent (length tags) (length (tags ++ overflowed ∷ []))
+                (writer.seen_read + 1) W more (omega arith) below;
             writer_fits = record {
               sized = X.sized;
-              overflowed_tagged = ap (λ (l : List (ℕ × ℕ)). l ++ (writer.seen_read, get_or writer.sent writer.seen_read 0) ∷ []) X.overflowed_tagged
-                  ∙ ap (λ (k : ℕ × ℕ). tagged_positions overflowed 0 tags writer.sent ++ (k.0, get_or writer.sent k.1 0) ∷ []) (λ i. (sym same i, sym there i)) ∙ sym back;
+              overflowed_tagged =
+                  ap (λ (l : List (ℕ × ℕ)). l ++ (writer.seen_read, get_or writer.sent writer.seen_read 0) ∷ [])
+                  X.overflowed_tagged
+                  ∙ ap (λ (k : ℕ × ℕ). tagged_positions overflowed 0 tags writer.sent ++ (k.0, get_or writer.sent k.1 0) ∷ [])
+                  (λ i. (sym same i, sym there i)) ∙ sym back;
               read_within = omega arith;
               room = λ d. omega arith;
               due_room = λ d. absurd (false≢true d);
@@ -250,7 +198,8 @@ module _ (buffer : ℕ) (words : List ℕ) (writer : SendPass) (reader : TakePas
             };
             reader_fits = record {
               sized = Y.sized;
-              received_tagged = Y.received_tagged ∙ sym (append-nil (tagged_positions received 0 tags writer.sent)) ∙ sym (tagged_positions-tag received 0 tags overflowed writer.sent below);
+              received_tagged = Y.received_tagged ∙ sym (append-nil (tagged_positions received 0 tags writer.sent))
+                  ∙ sym (tagged_positions-tag received 0 tags overflowed writer.sent below);
               read_within = let h = Y.read_within in omega arith;
               write_within = Y.write_within;
               write_not_behind = Y.write_not_behind;
@@ -260,26 +209,25 @@ module _ (buffer : ℕ) (words : List ℕ) (writer : SendPass) (reader : TakePas
           }
 
     -- the taker has moved it on
-    module _ (miss : get_or words 0 0 ≢ writer.seen_read) where
-      pub writer_loses-fits : Fits buffer words (after_lost_exchange writer) reader tags
-      writer_loses-fits = record {
-        words_fit = W;
-        writer_fits = record {
-          sized = X.sized;
-          overflowed_tagged = X.overflowed_tagged;
-          read_within = X.read_within;
-          room = λ d. let long = due_full in
-              let seen = X.read_within in
-              let shown = W.read_position in omega arith;
-          due_room = λ d. absurd (false≢true d);
-          due_read = λ d. absurd (false≢true d);
-          due_none_to_send = λ d. absurd (false≢true d);
-          to_send_in_slot = λ v is. absurd (due_not_pending v is);
-          to_send_room = λ v is. absurd (due_not_pending v is);
-          to_send_counts = λ v is. absurd (due_not_pending v is);
-        };
-        reader_fits = Y;
-      }
+    pub writer_loses-fits : get_or words 0 0 ≢ writer.seen_read → Fits buffer words (after_lost_exchange writer) reader tags
+    writer_loses-fits miss = record {
+      words_fit = W;
+      writer_fits = record {
+        sized = X.sized;
+        overflowed_tagged = X.overflowed_tagged;
+        read_within = X.read_within;
+        room = λ d. let long = due_full in
+            let seen = X.read_within in
+            let shown = W.read_position in omega arith;
+        due_room = λ d. absurd (false≢true d);
+        due_read = λ d. absurd (false≢true d);
+        due_none_to_send = λ d. absurd (false≢true d);
+        to_send_in_slot = λ v is. absurd (due_not_pending v is);
+        to_send_room = λ v is. absurd (due_not_pending v is);
+        to_send_counts = λ v is. absurd (due_not_pending v is);
+      };
+      reader_fits = Y;
+    }
 
   -- ---- the taker
 
@@ -320,7 +268,7 @@ module _ (buffer : ℕ) (words : List ℕ) (writer : SendPass) (reader : TakePas
 
   module _ (write : ℕ) (seen : reader.seen_write ≡ Some write) (behind : reader.seen_read < write) where
     abbrev its_slot : ℕ
-    its_slot = slot_of buffer reader.seen_read
+    its_slot = slot_of slots reader.seen_read
 
     pub reader_loads_slot-fits : Fits buffer words writer (after_slot_look (get_or words its_slot 0) reader) tags
     reader_loads_slot-fits = record {
@@ -334,7 +282,8 @@ module _ (buffer : ℕ) (words : List ℕ) (writer : SendPass) (reader : TakePas
         write_not_behind = Y.write_not_behind;
         value_queued = λ value is. (write, seen, behind);
         value_sent = λ value is here. let within = Y.write_within write seen in
-            let first : get_or words its_slot 0 ≡ value = cc in sym (W.queued_in_slots reader.seen_read (omega arith) (omega arith)) ∙ first;
+            let first : get_or words its_slot 0 ≡ value = cc in
+            sym (W.in_slots reader.seen_read (omega arith) (omega arith)) ∙ first;
       };
     }
 
@@ -349,39 +298,37 @@ module _ (buffer : ℕ) (words : List ℕ) (writer : SendPass) (reader : TakePas
       abbrev passed : List ℕ
       passed = set words 0 (reader.seen_read + 1)
 
-      pub reader_wins-fits : Fits buffer passed writer (after_take value reader) (tags ++ received ∷ [])
-      reader_wins-fits = let size = W.sized in
-          let there : length tags ≡ reader.seen_read = sym W.read_position ∙ hit in
+      passed_fits : Fits buffer passed writer (record reader { received = reader.received ++ (reader.seen_read, value) ∷ []; seen_write = None; seen_value = None }) (tags ++ received ∷ [])
+      passed_fits = let there : length tags ≡ reader.seen_read = sym W.read_position ∙ hit in
           let within = taken_within in
           let more : length (tags ++ received ∷ []) ≡ length tags + 1 = length-append tags (received ∷ []) in
           let below : length tags < length writer.sent = omega arith in
           let mine = tagged_positions-tag received 0 tags received writer.sent below in
           let same : 0 + length tags ≡ reader.seen_read = omega arith in
           let is_value : get_or writer.sent reader.seen_read 0 ≡ value = Y.value_sent value loaded there in record {
-            words_fit = record {
-              sized = length-set words 0 (reader.seen_read + 1) ∙ size;
-              read_position = get_or-set_same words 0 (reader.seen_read + 1) 0 (omega arith) ∙ omega arith;
-              write_position = let n : 1 ≢ 0 = omega arith in get_or-set_other words 0 1 (reader.seen_read + 1) 0 n ∙ W.write_position;
-              read_within = omega arith;
-              queued_in_slots = λ p from inside. let n : slot_of buffer p ≢ 0 = omega arith in
-                  get_or-set_other words 0 (slot_of buffer p) (reader.seen_read + 1) 0 n ∙ W.queued_in_slots p (omega arith) inside;
-            };
+            words_fit = WordsFit-read slots words writer.sent (length tags) (length (tags ++ received ∷ []))
+                (reader.seen_read + 1) W more (omega arith) below;
             writer_fits = record {
               sized = X.sized;
-              overflowed_tagged = X.overflowed_tagged ∙ sym (append-nil (tagged_positions overflowed 0 tags writer.sent)) ∙ sym (tagged_positions-tag overflowed 0 tags received writer.sent below);
+              overflowed_tagged = X.overflowed_tagged ∙ sym (append-nil (tagged_positions overflowed 0 tags writer.sent))
+                  ∙ sym (tagged_positions-tag overflowed 0 tags received writer.sent below);
               read_within = let h = X.read_within in omega arith;
               room = λ d. let h = X.room d in omega arith;
               due_room = λ d. let h = X.due_room d in omega arith;
               due_read = X.due_read;
               due_none_to_send = X.due_none_to_send;
-              to_send_in_slot = λ v is. let n : next_slot ≢ 0 = omega arith in get_or-set_other words 0 next_slot (reader.seen_read + 1) 0 n ∙ X.to_send_in_slot v is;
+              to_send_in_slot = λ v is.
+                  slot-after_store slots words 0 (length writer.sent) (reader.seen_read + 1) (omega arith)
+                  ∙ X.to_send_in_slot v is;
               to_send_room = X.to_send_room;
               to_send_counts = X.to_send_counts;
             };
             reader_fits = record {
               sized = Y.sized;
-              received_tagged = ap (λ (l : List (ℕ × ℕ)). l ++ (reader.seen_read, value) ∷ []) Y.received_tagged
-                  ∙ ap (λ (k : ℕ × ℕ). tagged_positions received 0 tags writer.sent ++ k ∷ []) (λ i. (sym same i, (sym is_value ∙ ap (λ (k : ℕ). get_or writer.sent k 0) (sym there)) i)) ∙ sym mine;
+              received_tagged =
+                  ap (λ (l : List (ℕ × ℕ)). l ++ (reader.seen_read, value) ∷ []) Y.received_tagged
+                  ∙ ap (λ (k : ℕ × ℕ). tagged_positions received 0 tags writer.sent ++ k ∷ [])
+                  (λ i. (sym same i, (sym is_value ∙ ap (λ (k : ℕ). get_or writer.sent k 0) (sym there)) i)) ∙ sym mine;
               read_within = omega arith;
               write_within = λ write is. cc;
               write_not_behind = λ write is. cc;
@@ -389,6 +336,13 @@ module _ (buffer : ℕ) (words : List ℕ) (writer : SendPass) (reader : TakePas
               value_sent = λ v is. cc;
             };
           }
+
+      pub reader_wins-fits : Fits buffer passed writer (after_take reader) (tags ++ received ∷ [])
+      reader_wins-fits = subst
+          (λ (o : Option ℕ). Fits buffer passed writer
+          (record reader { received = reader.received ++ map (λ (v : ℕ). (reader.seen_read, v)) (option_to_list o); seen_write = None; seen_value = None })
+          (tags ++ received ∷ []))
+          (sym loaded) passed_fits
 
   pub reader_loses-fits : Fits buffer words writer (after_miss reader) tags
   reader_loses-fits = record {

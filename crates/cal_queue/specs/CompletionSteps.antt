@@ -3,7 +3,7 @@
 use Rattle.std.specs.Prelude.{◌≡◌, ℕ, ◌+◌, ◌≤◌, length, take}
 use Rattle.atomic_table.specs.Table.{Me, Step}
 use Rattle.cal_queue.specs.CompletionPass.{after_read_load, after_slot_look, after_write_look, after_read_store, after_slot_store, after_write_store}
-use Rattle.cal_queue.specs.CompletionRule.{IsCompleted}
+use Rattle.cal_queue.specs.RingState.{IsCompleted}
 use Rattle.cal_queue.specs.Sides.{with_reader, with_writer}
 use Rattle.cal_queue.specs.declared.completion_ring.pass.PutPass.{PutPass}
 use Rattle.cal_queue.specs.declared.completion_ring.pass.GetPass.{GetPass}

@@ -1,27 +1,28 @@
--- A channel by what happened on it. Values are sent into a queue, and each leaves the queue by being received, or by
--- overflowing back to the sender. What was received is later released to the sender, who reclaims it. No words of memory
--- are spoken of here: a ring's rule says which channel its words show.
+-- The two rings of a channel by what happened on them. Values are sent into the submission ring, and each leaves it by
+-- being received, or by overflowing back to the sender. What was received is later released into the completion ring, and
+-- reclaimed from it. No words of memory are spoken of here: a ring's rule says which state its words represent.
 use Rattle.std.specs.Prelude.{◌≡◌, ℕ, ◌+◌, ◌-◌, ◌<◌, ◌≤◌, Bool, true, false, List, [], ◌∷◌, ◌++◌, length, if◌then◌else◌}
 
--- how a value left the queue
+-- how a value left the submission ring
 pub data Tag : Type 0 where
   received : Tag
   overflowed : Tag
 
 pub record RingState : Type 0 where
-  -- the values sent, the first one first; a value's place in this list is its position
+  -- the values sent, the first one first; a value's index in this list is its position
   pub sent : List ℕ
-  -- how the values at the first positions left the queue; the other positions are queued_count
+  -- how the values at the first positions left the submission ring; the values at the other positions are queued
   pub tags : List Tag
   -- the values released, the first one first
   pub released : List ℕ
   -- how many of these were reclaimed
   pub reclaimed : ℕ
 
--- the channel on which nothing has happened
+-- the state in which nothing has happened
 abbrev pub unused_state : RingState
 unused_state = record { sent = []; tags = []; released = []; reclaimed = 0 }
 
+-- how many values are queued, and how many are released and not reclaimed
 abbrev pub queued_count : RingState → ℕ
 queued_count c = length c.sent - length c.tags
 
@@ -35,12 +36,12 @@ pub data Event : Type 0 where
   releases : ℕ → Event
   reclaims : Event
 
--- how many values may be queued_count between two calls, and how many may be released and not reclaimed
+-- how many values may be queued between two calls, and how many may be released and not reclaimed
 pub record Bounds : Type 0 where
   pub buffer : ℕ
   pub completion : ℕ
 
--- when each event may happen. One more value than the buffer holds is queued_count between a send and the overflow that it causes
+-- when each event may happen. Between a send and the overflow that it causes, one value more than the buffer holds is queued
 abbrev pub MayHappen : Bounds → RingState → Event → Type 0
 MayHappen b c (sends value) = queued_count c ≤ b.buffer
 MayHappen b c overflows = queued_count c ≡ b.buffer + 1
@@ -48,6 +49,7 @@ MayHappen b c receives = 1 ≤ queued_count c
 MayHappen b c (releases value) = unreclaimed_count c < b.completion
 MayHappen b c reclaims = 1 ≤ unreclaimed_count c
 
+-- the state after an event
 abbrev pub after_event : RingState → Event → RingState
 after_event c (sends value) = record c { sent = c.sent ++ value ∷ [] }
 after_event c overflows = record c { tags = c.tags ++ overflowed ∷ [] }
@@ -55,12 +57,12 @@ after_event c receives = record c { tags = c.tags ++ received ∷ [] }
 after_event c (releases value) = record c { released = c.released ++ value ∷ [] }
 after_event c reclaims = record c { reclaimed = c.reclaimed + 1 }
 
--- these events lead from one channel to another, each allowed where it happens
+-- these events lead from one state to another, each allowed where it happens
 abbrev pub IsSchedule : Bounds → RingState → List Event → RingState → Type 0
 IsSchedule b c [] d = c ≡ d
 IsSchedule b c (e ∷ es) d = MayHappen b c e × IsSchedule b (after_event c e) es d
 
--- some schedule leads from the unused_state channel to this one
+-- some schedule leads from the unused state to this one
 abbrev pub IsReached : Bounds → RingState → Type 0
 IsReached b c = (events : List Event) × IsSchedule b unused_state events c
 
@@ -75,12 +77,23 @@ abbrev pub tagged_positions : Tag → ℕ → List Tag → List ℕ → List (�
 tagged_positions tag first [] values = []
 tagged_positions tag first (t ∷ ts) [] = []
 tagged_positions tag first (t ∷ ts) (v ∷ vs) =
-    if is_same_tag t tag then (first, v) ∷ tagged_positions tag (first + 1) ts vs else tagged_positions tag (first + 1) ts vs
+    if is_same_tag t tag
+    then (first, v) ∷ tagged_positions tag (first + 1) ts vs
+    else tagged_positions tag (first + 1) ts vs
 
--- the positions that were received, each with the value that was sent there
-abbrev pub received_positions : RingState → List (ℕ × ℕ)
-received_positions c = tagged_positions received 0 c.tags c.sent
+-- the state with these values sent, these tags, and these values released, of which so many were reclaimed
+abbrev pub ring_state : List ℕ → List Tag → List ℕ → ℕ → RingState
+ring_state sent tags released reclaimed =
+    record { sent = sent; tags = tags; released = released; reclaimed = reclaimed }
 
--- the positions that overflowed, each with the value that was sent there
-abbrev pub overflowed_positions : RingState → List (ℕ × ℕ)
-overflowed_positions c = tagged_positions overflowed 0 c.tags c.sent
+-- some schedule leads to these values and tags, whatever room there is for released values
+abbrev pub IsSubmitted : ℕ → List ℕ → List Tag → Type 0
+IsSubmitted buffer sent tags =
+    (completion : ℕ) → IsReached (record { buffer = buffer; completion = completion }) (ring_state sent tags [] 0)
+
+-- after whatever was submitted, some schedule releases these values and reclaims so many of them
+abbrev pub IsCompleted : ℕ → List ℕ → ℕ → Type 0
+IsCompleted completion released reclaimed =
+    (buffer : ℕ) (sent : List ℕ) (tags : List Tag)
+    → IsReached (record { buffer = buffer; completion = completion }) (ring_state sent tags [] 0)
+    → IsReached (record { buffer = buffer; completion = completion }) (ring_state sent tags released reclaimed)

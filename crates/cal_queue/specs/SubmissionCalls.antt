@@ -1,9 +1,8 @@
 -- What the calls of a submission ring's two ends do, as a caller of one end knows it: by the pass of that end, which only
 -- its own steps change. Counters of the pass tell that a position was loaded in this call, and not before.
 use Rattle.std.specs.Prelude.{◌≡◌, ℕ, ◌+◌, ◌<◌, List, [], ◌∷◌, ◌++◌, length, slice_get, Some}
-use Rattle.cal_queue.specs.RingState.{Tag, received, overflowed, tagged_positions}
+use Rattle.cal_queue.specs.RingState.{IsSubmitted, Tag, received, overflowed, tagged_positions}
 use Rattle.cal_queue.specs.SubmissionPass.{after_read_load, after_read_look, after_write_look}
-use Rattle.cal_queue.specs.SubmissionRule.{IsSubmitted}
 use Rattle.cal_queue.specs.declared.submission_ring.pass.SendPass.{SendPass}
 use Rattle.cal_queue.specs.declared.submission_ring.pass.TakePass.{TakePass}
 use Rattle.cal_queue.specs.declared.submission_ring.send_seat.SendSeat.{SendSeat}

@@ -1,5 +1,6 @@
 -- What each step of the submission ring does to the pass of the end that makes it.
-use Rattle.std.specs.Prelude.{◌≡◌, ℕ, ◌+◌, ◌==◌, false, [], ◌∷◌, ◌++◌, length, slice_index, Some, None}
+use Rattle.std.specs.Prelude.{◌≡◌, ℕ, ◌+◌, ◌==◌, false, [], ◌∷◌, ◌++◌, length, map, slice_index, Some, None}
+use Rattle.std.specs.Option.{option_to_list}
 use Rattle.cal_queue.specs.declared.submission_ring.pass.SendPass.{SendPass}
 use Rattle.cal_queue.specs.declared.submission_ring.pass.TakePass.{TakePass}
 
@@ -35,9 +36,14 @@ after_read_load position p = record p { seen_read = position; loads = p.loads + 
 abbrev pub after_slot_store : ℕ → SendPass → SendPass
 after_slot_store value p = record p { to_send = Some value }
 
--- the sender has stored the write position, so that this value is sent. Where the ring had been seen full, an exchange is due
-abbrev pub after_write_store : ℕ → SendPass → SendPass
-after_write_store value p = record p { sent = p.sent ++ value ∷ []; to_send = None; exchange_due = length p.sent == p.seen_read + p.buffer }
+-- the sender has stored the write position, so that the value that was to be sent is sent. Where the ring had been seen
+-- full, an exchange is due
+abbrev pub after_write_store : SendPass → SendPass
+after_write_store p = record p {
+  sent = p.sent ++ option_to_list p.to_send;
+  to_send = None;
+  exchange_due = length p.sent == p.seen_read + p.buffer;
+}
 
 -- the sender has moved the read position on, so that the oldest value comes back
 abbrev pub after_won_exchange : SendPass → SendPass
@@ -59,9 +65,13 @@ after_write_look position p = record p { seen_write = Some position; write_loads
 abbrev pub after_slot_look : ℕ → TakePass → TakePass
 after_slot_look value p = record p { seen_value = Some value }
 
--- the taker has moved the read position on, so that this value is its own
-abbrev pub after_take : ℕ → TakePass → TakePass
-after_take value p = record p { received = p.received ++ (p.seen_read, value) ∷ []; seen_write = None; seen_value = None }
+-- the taker has moved the read position on, so that the value that it loaded is its own
+abbrev pub after_take : TakePass → TakePass
+after_take p = record p {
+  received = p.received ++ map (λ value. (p.seen_read, value)) (option_to_list p.seen_value);
+  seen_write = None;
+  seen_value = None;
+}
 
 -- the sender had moved the read position on
 abbrev pub after_miss : TakePass → TakePass

@@ -2,10 +2,9 @@
 -- more than that a position is at most, or at least, some number.
 use Rattle.std.specs.Prelude.{◌≡◌, ◌≢◌, ℕ, ◌+◌, ◌<◌, ◌≤◌, false, List, length, Some}
 use Rattle.atomic_table.specs.Table.{Me, Step}
-use Rattle.cal_queue.specs.RingState.{Tag, received, overflowed, tagged_positions}
+use Rattle.cal_queue.specs.RingState.{IsSubmitted, Tag, received, overflowed, tagged_positions}
 use Rattle.cal_queue.specs.Sides.{with_writer, with_reader}
 use Rattle.cal_queue.specs.SubmissionPass.{after_read_load, after_slot_store, after_write_store, after_won_exchange, after_lost_exchange, after_read_look, after_write_look, after_slot_look, after_take, after_miss}
-use Rattle.cal_queue.specs.SubmissionRule.{IsSubmitted}
 use Rattle.cal_queue.specs.declared.sided.Sided.{Sided}
 use Rattle.cal_queue.specs.declared.submission_ring.pass.SendPass.{SendPass}
 use Rattle.cal_queue.specs.declared.submission_ring.pass.TakePass.{TakePass}
@@ -24,7 +23,7 @@ WriterStoresSlot step me value me' = me' ≡ with_writer me (after_slot_store va
 
 -- the sender stores the write position
 abbrev pub WriterStoresWrite : Step (Unit {0}) → End → ℕ → End → Type 0
-WriterStoresWrite step me position me' = (value : ℕ) → me.0.writer.to_send ≡ Some value → me' ≡ with_writer me (after_write_store value me.0.writer)
+WriterStoresWrite step me position me' = me' ≡ with_writer me (after_write_store me.0.writer)
 
 -- the sender exchanges the read position
 abbrev pub WriterExchangesRead : Step (Unit {0}) → End → ℕ → End → Type 0
@@ -47,7 +46,7 @@ ReaderLoadsSlot step me value me' = me' ≡ with_reader me (after_slot_look valu
 -- the taker exchanges the read position
 abbrev pub ReaderExchangesRead : Step (Unit {0}) → End → ℕ → End → Type 0
 ReaderExchangesRead step me position me' =
-    (position ≡ me.0.reader.seen_read → (length me.0.reader.received ≤ me.0.reader.seen_read) × ((value : ℕ) → me.0.reader.seen_value ≡ Some value → me' ≡ with_reader me (after_take value me.0.reader)))
+    (position ≡ me.0.reader.seen_read → (length me.0.reader.received ≤ me.0.reader.seen_read) × (me' ≡ with_reader me (after_take me.0.reader)))
     × (position ≢ me.0.reader.seen_read → me' ≡ with_reader me (after_miss me.0.reader))
 
 -- with both ends in hand: how the values sent are spread over those received, those returned and those left

@@ -1,7 +1,7 @@
 //! The getting end's steps on the table.
 ghost use Rattle.std.specs.Prelude.{◌≡◌, ◌+◌, ◌-◌, ◌^◌, ◌<◌, ◌≤◌, true, length};
 ghost use Rattle.cal_queue.specs.CompletionPass.{after_slot_look, after_write_look, after_read_store};
-ghost use Rattle.cal_queue.specs.CompletionRule.{slot_of};
+ghost use Rattle.cal_queue.specs.RingWords.{slot_of};
 ghost use Rattle.cal_queue.specs.Sides.{with_reader};
 
 use super::plays::{ReaderLoadsSlot, ReaderLoadsWrite, ReaderStoresRead};

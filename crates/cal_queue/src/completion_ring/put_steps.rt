@@ -1,7 +1,7 @@
 //! The putting end's steps on the table.
 ghost use Rattle.std.specs.Prelude.{◌≡◌, ◌+◌, ◌-◌, ◌^◌, ◌<◌, ◌≤◌, true, None, length};
 ghost use Rattle.cal_queue.specs.CompletionPass.{after_read_load, after_slot_store, after_write_store};
-ghost use Rattle.cal_queue.specs.CompletionRule.{slot_of};
+ghost use Rattle.cal_queue.specs.RingWords.{slot_of};
 ghost use Rattle.cal_queue.specs.Sides.{with_writer};
 
 use super::plays::{WriterLoadsRead, WriterStoresSlot, WriterStoresWrite};

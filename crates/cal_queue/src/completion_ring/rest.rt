@@ -1,7 +1,7 @@
 //! A ring at rest: both ends come together, and their counts are compared.
 ghost use Rattle.std.specs.Prelude.{◌≡◌, ◌+◌, ◌≤◌, length, take};
 ghost use Rattle.cal_queue.specs.CompletionCalls.{IsOneRing, get_pass, put_pass};
-ghost use Rattle.cal_queue.specs.CompletionRule.{IsCompleted};
+ghost use Rattle.cal_queue.specs.RingState.{IsCompleted};
 
 use super::get_seat::GetSeat;
 use super::meeting::meet;

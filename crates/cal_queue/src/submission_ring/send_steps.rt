@@ -4,7 +4,7 @@ ghost use Rattle.std.specs.Prelude.{◌≡◌, ◌+◌, ◌-◌, ◌^◌, ◌<�
 ghost use Rattle.std.specs.Bool.{OnTrue, OnFalse};
 ghost use Rattle.cal_queue.specs.Sides.{with_writer};
 ghost use Rattle.cal_queue.specs.SubmissionPass.{after_read_load, after_slot_store, after_write_store, after_won_exchange, after_lost_exchange, IsIdle};
-ghost use Rattle.cal_queue.specs.SubmissionRule.{slot_of};
+ghost use Rattle.cal_queue.specs.RingWords.{slot_of};
 
 use super::plays::{WriterExchangesRead, WriterLoadsRead, WriterStoresSlot, WriterStoresWrite};
 use super::rule::{RingSeat, RingTable};
@@ -29,12 +29,12 @@ pub(super) fn append(table: &RingTable, seat: &mut RingSeat, slot: usize, writte
     requires sized { table.now.shared.table_id.words ≡ table.now.shared.key + 3 }
     requires sends { seat.old.me.0.writes ≡ true }
     requires idle { IsIdle seat.old.me.0.writer }
-    requires place { slot ≡ slot_of table.now.shared.key written }
+    requires place { slot ≡ slot_of (table.now.shared.key + 1) written }
     requires next { written ≡ length seat.old.me.0.writer.sent }
     requires room { written ≤ seat.old.me.0.writer.seen_read + table.now.shared.key }
     requires counts { written < 2 ^ 64 - 1 }
     ensures seated { seat.new.table_id ≡ seat.old.table_id }
-    ensures appended { seat.new.me ≡ with_writer seat.old.me (after_write_store value (after_slot_store value seat.old.me.0.writer)) }
+    ensures appended { seat.new.me ≡ with_writer seat.old.me (after_write_store (after_slot_store value seat.old.me.0.writer)) }
 {
     table.shared.store::<WriterStoresSlot>(seat, slot, value);
     table

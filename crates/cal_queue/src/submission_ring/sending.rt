@@ -27,7 +27,7 @@ impl SendSeat {
         requires room { length (send_pass self.old).sent < (send_pass self.old).seen_read + (send_pass self.old).buffer }
         requires counts { length (send_pass self.old).sent < 2 ^ 64 - 1 }
         ensures same_end { SameSendEnd self.old self.new }
-        ensures sent { send_pass self.new ≡ after_write_store value (after_slot_store value (send_pass self.old)) }
+        ensures sent { send_pass self.new ≡ after_write_store (after_slot_store value (send_pass self.old)) }
     {
         append(
             &self.table,

@@ -2,7 +2,7 @@
 ghost use Rattle.std.specs.Prelude.{◌≡◌, ◌+◌, ◌-◌, ◌^◌, ◌<◌, ◌≤◌, true, false, length, Some, IfSome, IfNone};
 ghost use Rattle.cal_queue.specs.Sides.{with_reader};
 ghost use Rattle.cal_queue.specs.SubmissionPass.{after_read_look, after_write_look, after_slot_look, after_take, after_miss};
-ghost use Rattle.cal_queue.specs.SubmissionRule.{slot_of};
+ghost use Rattle.cal_queue.specs.RingWords.{slot_of};
 
 use super::plays::{ReaderExchangesRead, ReaderLoadsRead, ReaderLoadsSlot, ReaderLoadsWrite};
 use super::rule::{RingSeat, RingTable};
@@ -33,11 +33,11 @@ pub(super) fn take(
     requires seated { seat.old.table_id ≡ table.now.shared.table_id }
     requires sized { table.now.shared.table_id.words ≡ table.now.shared.key + 3 }
     requires takes { seat.old.me.0.reads ≡ true }
-    requires place { slot ≡ slot_of table.now.shared.key read }
+    requires place { slot ≡ slot_of (table.now.shared.key + 1) read }
     requires loaded { (read ≡ seat.old.me.0.reader.seen_read) × (seat.old.me.0.reader.seen_write ≡ Some written) }
     requires queued_count { read < written }
     ensures seated { seat.new.table_id ≡ seat.old.table_id }
-    ensures taken { IfSome result (λ value. seat.new.me ≡ with_reader seat.old.me (after_take value seat.old.me.0.reader)) }
+    ensures taken { IfSome result (λ value. seat.new.me ≡ with_reader seat.old.me (after_take (after_slot_look value seat.old.me.0.reader))) }
     ensures fewer { IfSome result (λ value. length seat.old.me.0.reader.received ≤ read) }
     ensures lost { IfNone result (seat.new.me ≡ with_reader seat.old.me (after_miss seat.old.me.0.reader)) }
 {

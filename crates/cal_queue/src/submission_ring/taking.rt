@@ -7,7 +7,7 @@ use crate::ring_words::{FIRST_SLOT, next_index};
 use std::sync::Wait;
 
 impl TakeSeat {
-    ghost use Rattle.cal_queue.specs.SubmissionPass.{after_read_look, after_write_look, after_take, after_miss};
+    ghost use Rattle.cal_queue.specs.SubmissionPass.{after_read_look, after_write_look, after_slot_look, after_take, after_miss};
     ghost use Rattle.cal_queue.specs.SubmissionCalls.{take_pass, SameTakeEnd, LooksOnce, SeesEmpty};
 
     fn look(&mut self) -> (u64, u64)
@@ -34,7 +34,7 @@ impl TakeSeat {
         requires looked { (read ≡ (take_pass self.old).seen_read) × ((take_pass self.old).seen_write ≡ Some written) }
         requires queued_count { read < written }
         ensures same_end { SameTakeEnd self.old self.new }
-        ensures taken { IfSome result (λ value. take_pass self.new ≡ after_take value (take_pass self.old)) }
+        ensures taken { IfSome result (λ value. take_pass self.new ≡ after_take (after_slot_look value (take_pass self.old))) }
         ensures lost { IfNone result (take_pass self.new ≡ after_miss (take_pass self.old)) }
     {
         let index = self.index_of(read);

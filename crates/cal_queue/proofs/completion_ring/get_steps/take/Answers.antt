@@ -1,8 +1,8 @@
 use Rattle.std.proofs.Common.{◌≡◌, ◌+◌, ◌<◌, ℕ, length, ap, ◌∙◌, arith}
-use Rattle.cal_queue.specs.CompletionRule.{slot_of}
+use Rattle.cal_queue.specs.RingWords.{slot_of}
 use Rattle.cal_queue.specs.CompletionSteps.{End}
 use Rattle.cal_queue.proofs.CompletionAllowed.{reader_loads_slot-allowed, reader_stores_read-allowed}
-use Rattle.cal_queue.proofs.CompletionKeeps.{slot_within}
+use Rattle.cal_queue.proofs.RingWordsFit.{slot_within}
 use Rattle.cal_queue.proofs.completion_ring.get_steps.take.Goals as goal
 
 pub load-value-requires : goal.load-value-requires

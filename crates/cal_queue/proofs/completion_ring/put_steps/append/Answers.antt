@@ -1,8 +1,8 @@
 use Rattle.std.proofs.Common.{◌≡◌, ◌+◌, ◌<◌, ℕ, length, ap, ◌∙◌, arith}
-use Rattle.cal_queue.specs.CompletionRule.{slot_of}
+use Rattle.cal_queue.specs.RingWords.{slot_of}
 use Rattle.cal_queue.specs.CompletionSteps.{End}
 use Rattle.cal_queue.proofs.CompletionAllowed.{writer_stores_slot-allowed, writer_stores_write-allowed}
-use Rattle.cal_queue.proofs.CompletionKeeps.{slot_within}
+use Rattle.cal_queue.proofs.RingWordsFit.{slot_within}
 use Rattle.cal_queue.proofs.completion_ring.put_steps.append.Goals as goal
 
 pub store-requires : goal.store-requires

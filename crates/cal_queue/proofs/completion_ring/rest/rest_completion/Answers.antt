@@ -1,6 +1,6 @@
 use Rattle.std.proofs.Common.{ℕ, sym, subst}
 use Rattle.cal_queue.specs.CompletionCalls.{put_pass}
-use Rattle.cal_queue.specs.CompletionRule.{IsCompleted}
+use Rattle.cal_queue.specs.RingState.{IsCompleted}
 use Rattle.cal_queue.proofs.completion_ring.rest.rest_completion.Goals as goal
 
 pub returns-clause-completed : goal.returns-clause-completed
