@@ -45,6 +45,10 @@ after_write_store p = record p {
   exchange_due = length p.sent == p.seen_read + p.buffer;
 }
 
+-- the sender has stored a value and then the write position
+abbrev pub after_stores : ℕ → SendPass → SendPass
+after_stores value p = after_write_store (after_slot_store value p)
+
 -- the sender has moved the read position on, so that the oldest value comes back
 abbrev pub after_won_exchange : SendPass → SendPass
 after_won_exchange p = record p { overflowed = p.overflowed ++ (p.seen_read, slice_index p.sent p.seen_read) ∷ []; exchange_due = false }

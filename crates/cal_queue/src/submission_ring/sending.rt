@@ -9,9 +9,9 @@ use crate::push_refusal::PushRefusal;
 use crate::ring_words::{FIRST_SLOT, next_index};
 
 impl SendSeat {
-    ghost use Rattle.cal_queue.specs.SubmissionPass.{after_read_load, after_slot_store, after_write_store};
-    ghost use Rattle.cal_queue.specs.SubmissionCalls.{send_pass, SameSendEnd, SameLists, LoadsOnce, SeesFull, SeesRoom, LosesExchange, Overflows};
-    ghost use Rattle.cal_queue.specs.declared.push_refusal.PushRefusal.TheVariants.{Full, PositionsUsedUp};
+    ghost use Rattle.cal_queue.specs.SubmissionPass.{after_lost_exchange, after_read_load, after_stores, after_won_exchange};
+    ghost use Rattle.cal_queue.specs.SubmissionCalls.{IsPush, LoadsOnce, SameLists, SameSendEnd, send_pass};
+    ghost use Rattle.cal_queue.specs.declared.push_refusal.PushRefusal.TheVariants.{PositionsUsedUp};
 
     fn look(&mut self) -> u64
         ensures same_end { SameSendEnd self.old self.new }
@@ -27,7 +27,7 @@ impl SendSeat {
         requires room { length (send_pass self.old).sent < (send_pass self.old).seen_read + (send_pass self.old).buffer }
         requires counts { length (send_pass self.old).sent < 2 ^ 64 - 1 }
         ensures same_end { SameSendEnd self.old self.new }
-        ensures sent { send_pass self.new ≡ after_write_store (after_slot_store value (send_pass self.old)) }
+        ensures sent { send_pass self.new ≡ after_stores value (send_pass self.old) }
     {
         append(
             &self.table,
@@ -47,10 +47,11 @@ impl SendSeat {
         requires counts { length (send_pass self.old).sent < 2 ^ 64 - 1 }
         ensures same_end { SameSendEnd self.old self.new }
         ensures sent { (send_pass self.new).sent ≡ (send_pass self.old).sent ++ value ∷ [] }
-        ensures looked { ((send_pass self.new).seen_read ≡ (send_pass self.old).seen_read) × ((send_pass self.new).loads ≡ (send_pass self.old).loads) }
-        ensures back { IfSome result (λ oldest. Overflows oldest (send_pass self.old) (send_pass self.new)) }
-        ensures kept { IfNone result ((send_pass self.new).overflowed ≡ (send_pass self.old).overflowed) }
-        ensures lost { IfNone result (LosesExchange (send_pass self.old) (send_pass self.new)) }
+        ensures back { IfSome result (λ oldest. send_pass self.new ≡ after_won_exchange (after_stores value (send_pass self.old))) }
+        ensures overflowed { IfSome result (λ oldest.
+            ((send_pass self.new).overflowed ≡ (send_pass self.old).overflowed ++ ((send_pass self.old).seen_read, oldest) ∷ [])
+            × (slice_get (send_pass self.new).sent (send_pass self.old).seen_read ≡ Some oldest)) }
+        ensures lost { IfNone result (send_pass self.new ≡ after_lost_exchange (after_stores value (send_pass self.old))) }
     {
         let read = self.written - self.buffer;
         append(
@@ -74,17 +75,12 @@ impl SendSeat {
     /// it is received meanwhile.
     pub fn push(&mut self, value: u64, overflow: bool) -> Result<Option<u64>, PushRefusal>
         ensures same_end { SameSendEnd self.old self.new }
+        ensures is_push { IsPush overflow value result (send_pass self.old) (send_pass self.new) }
         ensures appended { OnOk result ((send_pass self.new).sent ≡ (send_pass self.old).sent ++ value ∷ []) }
-        ensures returned { IfOk result (λ back. IfSome back (λ oldest. Overflows oldest (send_pass self.old) (send_pass self.new))) }
-        ensures returned_where_full { IfOk result (λ back. IfSome back (λ oldest. IsTrue overflow × SeesFull (send_pass self.old) (send_pass self.new))) }
-        ensures none_returned { IfOk result (λ back. IfNone back ((send_pass self.new).overflowed ≡ (send_pass self.old).overflowed)) }
-        ensures none_returned_where { IfOk result (λ back. IfNone back (SeesRoom (send_pass self.old) (send_pass self.new)
-            ⊎ (IsTrue overflow × SeesFull (send_pass self.old) (send_pass self.new) × LosesExchange (send_pass self.old) (send_pass self.new)))) }
+        ensures none_overflowed { IfOk result (λ back. IfNone back ((send_pass self.new).overflowed ≡ (send_pass self.old).overflowed)) }
         ensures refused { OnErr result (SameLists (send_pass self.old) (send_pass self.new)) }
         ensures taken_with_overflow { IsTrue overflow → length (send_pass self.old).sent < 2 ^ 64 - 1 → IsOk result }
-        ensures full { result ≡ Err Full → IsFalse overflow × SeesFull (send_pass self.old) (send_pass self.new) × LoadsOnce (send_pass self.old) (send_pass self.new) }
         ensures used_up { (result ≡ Err PositionsUsedUp) ↔ (length (send_pass self.old).sent ≡ 2 ^ 64 - 1) }
-        ensures untouched { result ≡ Err PositionsUsedUp → send_pass self.new ≡ send_pass self.old }
     {
         if is_used_up(self.written) {
             return Err(PushRefusal::PositionsUsedUp);

@@ -8,7 +8,7 @@ use std::sync::Wait;
 
 impl TakeSeat {
     ghost use Rattle.cal_queue.specs.SubmissionPass.{after_read_look, after_write_look, after_slot_look, after_take, after_miss};
-    ghost use Rattle.cal_queue.specs.SubmissionCalls.{take_pass, SameTakeEnd, LooksOnce, SeesEmpty};
+    ghost use Rattle.cal_queue.specs.SubmissionCalls.{IsPop, LooksOnce, SameTakeEnd, take_pass};
 
     fn look(&mut self) -> (u64, u64)
         ensures same_end { SameTakeEnd self.old self.new }
@@ -54,18 +54,18 @@ impl TakeSeat {
     /// Takes the oldest value, if one waits. It tries again where the sender after_take that value back meanwhile.
     pub fn pop<R: Wait>(&mut self, rt: &R) -> Option<u64>
         ensures same_end { SameTakeEnd self.old self.new }
-        ensures received { IfSome result (λ value. (take_pass self.new).received ≡ (take_pass self.old).received ++ ((take_pass self.new).seen_read, value) ∷ []) }
+        ensures is_pop { IsPop result (take_pass self.old) (take_pass self.new) }
+        ensures received { IfSome result (λ value. (take_pass self.new).received
+            ≡ (take_pass self.old).received ++ ((take_pass self.new).seen_read, value) ∷ []) }
         ensures none_received { IfNone result ((take_pass self.new).received ≡ (take_pass self.old).received) }
-        ensures none_where { IfNone result (SeesEmpty (take_pass self.old) (take_pass self.new)) }
     {
         for _ in rt.forever() {
             let (read, written) = self.look();
             if read == written {
                 return None;
             }
-            let taken = self.try_take(read, written);
-            if taken.is_some() {
-                return taken;
+            if let Some(value) = self.try_take(read, written) {
+                return Some(value);
             }
         }
         unreachable!()

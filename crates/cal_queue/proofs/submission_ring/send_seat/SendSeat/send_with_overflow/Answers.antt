@@ -49,18 +49,16 @@ invariant_of-self-2 c =
       copied = subst (λ (l : List ℕ). KeepsLast self.buffer l (set self.copy.items self.index c.args.value)) (sym (ap (λ (m : End). m.0.writer.sent) won)) (KeepsLast-more self.buffer sent self.copy.items self.index c.args.value self.copied here);
     }
 
-pub returns-clause-back : goal.returns-clause-back
-returns-clause-back c =
+pub returns-clause-overflowed : goal.returns-clause-overflowed
+returns-clause-overflowed c =
     let self = c.args.self.now in
     let before = self.seat.me.0.writer in
-    let value = c.args.value in
-    let sent : List ℕ = before.sent ++ value ∷ [] in
     let won = c.if-not-exchange_read.ensures.won ∙ ap (λ (m : End). with_writer m (after_won_exchange m.0.writer)) c.append.ensures.appended in
     let here = self.indexed ∙ ap (λ (k : ℕ). k % (self.buffer + 1)) self.counted.0 in
     let next = c.next_index-self.ensures.next self.written self.indexed ∙ ap (λ (k : ℕ). (k + 1) % (self.buffer + 1)) self.counted.0 in
     let full = c.requires.full ∙ ap (λ (k : ℕ). before.seen_read + k) self.sends.1 in
-    let oldest = oldest-read self.buffer before.sent self.copy.items self.index c.next_index-self.result before.seen_read value c.index.result.now self.copied here next full c.index.ensures in
-    let seen = ap (λ (m : End). m.0.writer.seen_read) won in (
-      ap (λ (m : End). m.0.writer.overflowed) won ∙ ap (λ (e : ℕ × ℕ). before.overflowed ++ e ∷ []) (λ i. (sym seen i, sym oldest.0 i)),
-      ap (λ (m : End). slice_get m.0.writer.sent m.0.writer.seen_read) won ∙ oldest.1,
+    let oldest = oldest-read self.buffer before.sent self.copy.items self.index c.next_index-self.result before.seen_read
+    c.args.value c.index.result.now self.copied here next full c.index.ensures in (
+      ap (λ (m : End). m.0.writer.overflowed) won ∙ ap (λ (v : ℕ). before.overflowed ++ (before.seen_read, v) ∷ []) (sym oldest.0),
+      ap (λ (m : End). slice_get m.0.writer.sent before.seen_read) won ∙ oldest.1,
     )
