@@ -16,7 +16,7 @@ mod plays;
 mod put_seat;
 mod put_steps;
 mod putting;
-mod rest;
+mod resting;
 mod rule;
 
 pub use get_seat::GetSeat;
@@ -24,7 +24,7 @@ pub use interleavings::every_interleaving_is_a_schedule;
 use meeting::part;
 pub use pass::{GetPass, PutPass};
 pub use put_seat::PutSeat;
-pub use rest::{CompletionRest, rest_completion};
+pub use resting::{CompletionRest, rest_completion};
 use rule::RingTable;
 use std::alloc::{AllocError, Global};
 use std::sync::Arc;

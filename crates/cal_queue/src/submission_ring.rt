@@ -2,14 +2,14 @@
 //! lock: a sender never waits, and with overflow a full ring gives its oldest value back instead of refusing. The layer
 //! above may rely on each value sent being received or given back at most once, in the order of sending, and on `rest`,
 //! which joins both ends and says that nothing was lost.
-ghost use Rattle.std.specs.Prelude.{◌≡◌, ◌+◌, ◌^◌, ◌<◌, ◌≤◌, length, replicate, IfOk};
-ghost use Rattle.cal_queue.specs.Partition.{IsPartition};
+ghost use Rattle.std.specs.Prelude.{◌≡◌, ◌+◌, ◌^◌, ◌<◌, ◌≤◌, replicate, IfOk};
 ghost use Rattle.cal_queue.specs.SubmissionPass.{new_send_pass, new_take_pass};
-ghost use Rattle.cal_queue.specs.SubmissionCalls.{send_pass, take_pass, IsOneRing, IsScheduled};
+ghost use Rattle.cal_queue.specs.SubmissionCalls.{send_pass, take_pass, IsOneRing};
 
 mod interleavings;
 mod pass;
 mod plays;
+mod resting;
 mod rule;
 mod send_seat;
 mod send_steps;
@@ -20,12 +20,12 @@ mod taking;
 #[cfg(test)]
 mod tests;
 
-use crate::ring_words::{FIRST_SLOT, READ_POSITION};
+use crate::ring_words::FIRST_SLOT;
 use crate::sided::Parting;
 pub use interleavings::every_interleaving_is_a_schedule;
 pub use pass::{SendPass, TakePass};
-use plays::Settles;
-use rule::{Meeting, RingTable};
+pub use resting::{RingRest, rest};
+use rule::RingTable;
 pub use send_seat::SendSeat;
 use std::alloc::{AllocError, Global};
 use std::sync::Arc;
@@ -33,17 +33,6 @@ pub use take_seat::TakeSeat;
 
 /// A ring for two threads, which is used by its two ends.
 pub struct SubmissionRing;
-
-/// What became of the values that were sent into a ring.
-#[derive(Clone, Copy, PartialEq, Eq, Debug)]
-pub struct RingRest {
-    pub sent: usize,
-    pub received: usize,
-    /// How many came back to the sender, since the ring was full.
-    pub returned: usize,
-    /// How many are still in the ring.
-    pub left: usize,
-}
 
 fn zeros(alloc: Global, count: usize) -> Result<Vec<u64>, AllocError>
     ensures { IfOk result (λ row. row.items ≡ replicate count 0) }
@@ -86,43 +75,5 @@ impl SubmissionRing {
             index: 0,
         };
         Ok((send, take))
-    }
-}
-
-/// Joins the two ends of a ring again, and says what became of the values.
-pub fn rest(send: SendSeat, take: TakeSeat) -> RingRest
-    requires { IsOneRing send take }
-    ensures sent { result.sent ≡ length (send_pass send).sent }
-    ensures received { result.received ≡ length (take_pass take).received }
-    ensures returned { result.returned ≡ length (send_pass send).overflowed }
-    ensures adds_up { result.sent ≡ result.received + result.returned + result.left }
-    ensures within { result.left ≤ (send_pass send).buffer }
-    ensures partition { IsPartition (send_pass send).sent (take_pass take).received (send_pass send).overflowed }
-    ensures scheduled { IsScheduled (send_pass send) (take_pass take) }
-{
-    let SendSeat {
-        table,
-        mut seat,
-        buffer: _,
-        written,
-        overflowed,
-        index: _,
-        copy: _,
-    } = send;
-    let TakeSeat {
-        table: _,
-        seat: other,
-        buffer: _,
-        received,
-        next: _,
-        index: _,
-    } = take;
-    table.shared.join_seat::<Meeting>(&mut seat, other);
-    let read = table.shared.load::<Settles>(&mut seat, READ_POSITION);
-    RingRest {
-        sent: written as usize,
-        received: received as usize,
-        returned: overflowed as usize,
-        left: (written - read) as usize,
     }
 }

@@ -1,5 +1,5 @@
 //! The call of the getting end: two loads and a store, which take no memory and wait for nobody.
-ghost use Rattle.std.specs.Prelude.{◌≡◌, ◌+◌, ◌-◌, ◌^◌, ◌<◌, ◌≤◌, length, IfSome, IfNone};
+ghost use Rattle.std.specs.Prelude.{◌≡◌, ◌+◌, ◌-◌, ◌^◌, ◌<◌, ◌≤◌, [], ◌∷◌, ◌++◌, length, IfSome, IfNone};
 
 use super::get_seat::GetSeat;
 use super::get_steps::{load_write, take};
@@ -7,7 +7,7 @@ use crate::ring_words::{FIRST_SLOT, next_index};
 
 impl GetSeat {
     ghost use Rattle.cal_queue.specs.CompletionPass.{after_slot_look, after_write_look, after_read_store};
-    ghost use Rattle.cal_queue.specs.CompletionCalls.{Gets, SameGetEnd, SeesEmpty, get_pass};
+    ghost use Rattle.cal_queue.specs.CompletionCalls.{IsPop, SameGetEnd, get_pass};
 
     fn look(&mut self) -> u64
         ensures same_end { SameGetEnd self.old self.new }
@@ -34,8 +34,9 @@ impl GetSeat {
     /// Gets the oldest value, if one waits.
     pub fn pop(&mut self) -> Option<u64>
         ensures same_end { SameGetEnd self.old self.new }
-        ensures got { IfSome result (λ value. Gets value (get_pass self.old) (get_pass self.new)) }
-        ensures none { IfNone result (SeesEmpty (get_pass self.old) (get_pass self.new)) }
+        ensures is_pop { IsPop result (get_pass self.old) (get_pass self.new) }
+        ensures got { IfSome result (λ value. (get_pass self.new).got ≡ (get_pass self.old).got ++ value ∷ []) }
+        ensures none_got { IfNone result ((get_pass self.new).got ≡ (get_pass self.old).got) }
     {
         let written = self.look();
         if written == self.read {

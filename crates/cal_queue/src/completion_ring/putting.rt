@@ -1,5 +1,5 @@
 //! The call of the putting end: one load and two stores, which take no memory and wait for nobody.
-ghost use Rattle.std.specs.Prelude.{◌≡◌, ◌+◌, ◌-◌, ◌^◌, ◌<◌, ◌≤◌, ◌↔◌, length, OnErr, OnOk, Err};
+ghost use Rattle.std.specs.Prelude.{◌≡◌, ◌+◌, ◌-◌, ◌^◌, ◌<◌, ◌≤◌, ◌↔◌, [], ◌∷◌, ◌++◌, length, OnErr, OnOk, Err};
 
 use super::put_seat::PutSeat;
 use super::put_steps::{append, load_read};
@@ -9,8 +9,8 @@ use crate::ring_words::{FIRST_SLOT, next_index};
 
 impl PutSeat {
     ghost use Rattle.cal_queue.specs.CompletionPass.{after_read_load, after_slot_store, after_write_store};
-    ghost use Rattle.cal_queue.specs.CompletionCalls.{Puts, SamePutEnd, SeesFull, put_pass};
-    ghost use Rattle.cal_queue.specs.declared.push_refusal.PushRefusal.TheVariants.{Full, PositionsUsedUp};
+    ghost use Rattle.cal_queue.specs.CompletionCalls.{IsPush, SamePutEnd, put_pass};
+    ghost use Rattle.cal_queue.specs.declared.push_refusal.PushRefusal.TheVariants.{PositionsUsedUp};
 
     fn look(&mut self) -> u64
         ensures same_end { SamePutEnd self.old self.new }
@@ -34,14 +34,13 @@ impl PutSeat {
         self.written += 1;
     }
 
-    /// Puts a value behind all others. After a refusal the ring is as before.
+    /// Puts a value after all others. After a refusal the ring is as before.
     pub fn push(&mut self, value: u64) -> Result<(), PushRefusal>
         ensures same_end { SamePutEnd self.old self.new }
-        ensures put { OnOk result (Puts value (put_pass self.old) (put_pass self.new)) }
+        ensures is_push { IsPush value result (put_pass self.old) (put_pass self.new) }
+        ensures appended { OnOk result ((put_pass self.new).put ≡ (put_pass self.old).put ++ value ∷ []) }
         ensures refused { OnErr result ((put_pass self.new).put ≡ (put_pass self.old).put) }
-        ensures full { result ≡ Err Full → SeesFull (put_pass self.old) (put_pass self.new) }
         ensures used_up { (result ≡ Err PositionsUsedUp) ↔ (length (put_pass self.old).put ≡ 2 ^ 64 - 1) }
-        ensures untouched { result ≡ Err PositionsUsedUp → put_pass self.new ≡ put_pass self.old }
     {
         if is_used_up(self.written) {
             return Err(PushRefusal::PositionsUsedUp);

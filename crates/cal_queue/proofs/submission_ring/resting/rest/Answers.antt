@@ -5,7 +5,7 @@ use Rattle.cal_queue.specs.Partition.{IsPartition}
 use Rattle.cal_queue.proofs.SidedTables.{sides_join}
 use Rattle.cal_queue.proofs.SubmissionAllowed.{settles-allowed}
 use Rattle.cal_queue.proofs.TaggedPositions.{tagged-counts, tagged-partition}
-use Rattle.cal_queue.proofs.submission_ring.rest.Goals as goal
+use Rattle.cal_queue.proofs.submission_ring.resting.rest.Goals as goal
 
 pub join_seat-requires : goal.join_seat-requires
 join_seat-requires c =
