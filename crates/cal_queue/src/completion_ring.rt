@@ -10,7 +10,6 @@ mod get_seat;
 mod get_steps;
 mod getting;
 mod interleavings;
-mod meeting;
 mod pass;
 mod plays;
 mod put_seat;
@@ -19,9 +18,9 @@ mod putting;
 mod resting;
 mod rule;
 
+use crate::sided::Parting;
 pub use get_seat::GetSeat;
 pub use interleavings::every_interleaving_is_a_schedule;
-use meeting::part;
 pub use pass::{GetPass, PutPass};
 pub use put_seat::PutSeat;
 pub use resting::{CompletionRest, rest_completion};
@@ -46,7 +45,7 @@ impl CompletionRing {
         let words = vec![in alloc; 0; capacity + 2]?;
         let capacity = capacity as u64;
         let (table, mut seat) = RingTable::of_words(alloc, words.as_slice(), &capacity)?;
-        let other = part(&table, &mut seat);
+        let other = table.shared.split_seat::<Parting>(&mut seat);
         let table = Arc::new(alloc, table)?;
         let shared = Arc::try_clone(&table)?;
         let put = PutSeat {

@@ -4,8 +4,10 @@ ghost use Rattle.cal_queue.specs.CompletionCalls.{IsOneRing, get_pass, put_pass}
 ghost use Rattle.cal_queue.specs.RingState.{IsCompleted};
 
 use super::get_seat::GetSeat;
-use super::meeting::meet;
+use super::plays::Settles;
 use super::put_seat::PutSeat;
+use super::rule::Meeting;
+use crate::ring_words::READ_POSITION;
 
 /// How many values were put, how many of them were got, and how many are left.
 #[derive(Debug, Clone, Copy, PartialEq, Eq)]
@@ -36,7 +38,8 @@ pub fn rest_completion(put: PutSeat, get: GetSeat) -> CompletionRest
         read,
         ..
     } = get;
-    meet(&table, &mut seat, other);
+    table.shared.join_seat::<Meeting>(&mut seat, other);
+    table.shared.load::<Settles>(&mut seat, READ_POSITION);
     CompletionRest {
         put: written as usize,
         got: read as usize,
