@@ -46,7 +46,7 @@ tagged-tells overflowed first (received ∷ ts) (v ∷ vs) i entry is = later_te
 tagged-tells overflowed first (overflowed ∷ ts) (v ∷ vs) zero entry is = first_tells overflowed first ts v vs entry is
 tagged-tells overflowed first (overflowed ∷ ts) (v ∷ vs) (suc i) entry is = later_tells overflowed first overflowed ts v vs entry (tagged-tells overflowed (first + 1) ts vs i entry is)
 
--- an entry of the rest stands behind the first position
+-- an entry of the rest has a position after the first
 behind : (tag : Tag) (first : ℕ) (ts : List Tag) (v : ℕ) (vs : List ℕ) (j : ℕ) (x y : ℕ × ℕ) → Some (first, v) ≡ Some x → slice_get (tagged_positions tag (first + 1) ts vs) j ≡ Some y → x.0 < y.0
 behind tag first ts v vs j x y is there =
     let same : (first, v) ≡ x = cc in

@@ -1,5 +1,5 @@
--- What the calls of a completion ring's two ends do, as a caller of one end knows it: by the pass of that end, which only
--- its own steps change. Each answer tells which steps the call took.
+-- What the calls of a completion ring's two ends do, as a caller of one end knows it: by the pass of that end, which
+-- only its own steps change. Each answer tells which steps the call took.
 use Rattle.std.specs.Prelude.{◌≡◌, ℕ, ◌+◌, ◌-◌, ◌^◌, ◌<◌, length, Option, Some, None, Result, Ok, Err}
 use Rattle.cal_queue.specs.CompletionPass.{after_read_load, after_slot_look, after_write_look, after_read_store, after_slot_store, after_write_store}
 use Rattle.cal_queue.specs.declared.completion_ring.get_seat.GetSeat.{GetSeat}

@@ -1,5 +1,5 @@
--- The completion ring as a machine: its steps, when each may be taken, the moment after it, the event that it means, and
--- the states that its moments represent.
+-- The completion ring as a machine: its steps, when each may be taken, the moment after it, the event that it means,
+-- and the states that its moments represent.
 use Rattle.std.specs.Prelude.{◌≡◌, ℕ, ◌+◌, ◌-◌, ◌^◌, ◌<◌, List, [], ◌∷◌, length, map, replicate, slice_index, slice_set, None, IsSome, ⊤}
 use Rattle.std.specs.Option.{option_to_list}
 use Rattle.cal_queue.specs.CompletionPass.{after_read_load, after_read_store, after_slot_look, after_slot_store, after_write_look, after_write_store, new_get_pass, new_put_pass}
@@ -30,7 +30,8 @@ pub data RingStep : Type 0 where
 abbrev pub MayStep : ℕ → RingMoment → RingStep → Type 0
 MayStep capacity m writer_loads_read = m.writer.to_put ≡ None
 MayStep capacity m (writer_stores_slot value) =
-    (m.writer.to_put ≡ None) × (length m.writer.put < m.writer.seen_read + capacity) × (length m.writer.put < 2 ^ 64 - 1)
+    (m.writer.to_put ≡ None) × (length m.writer.put < m.writer.seen_read + capacity)
+    × (length m.writer.put < 2 ^ 64 - 1)
 MayStep capacity m writer_stores_write = IsSome m.writer.to_put
 MayStep capacity m reader_loads_write = ⊤
 MayStep capacity m reader_loads_slot = length m.reader.got < m.reader.seen_write
@@ -51,8 +52,8 @@ after_step capacity m reader_loads_slot =
 after_step capacity m reader_stores_read =
     record m { words = slice_set m.words 0 (length m.reader.got + 1); reader = after_read_store m.reader }
 
--- the event of each step: the store of the write position releases, the store of the read position reclaims, and no other
--- step is an event
+-- the event of each step: the store of the write position releases, the store of the read position reclaims, and no
+-- other step is an event
 abbrev pub events_of : RingMoment → RingStep → List Event
 events_of m writer_loads_read = []
 events_of m (writer_stores_slot value) = []
@@ -61,8 +62,8 @@ events_of m reader_loads_write = []
 events_of m reader_loads_slot = []
 events_of m reader_stores_read = reclaims ∷ []
 
--- a moment represents a state: its values are those that were released, as many as were got are reclaimed, and the words
--- and both passes fit together. What is sent there and how that left is another ring's to represent
+-- a moment represents a state: its values are those that were released, as many as were got are reclaimed, and the
+-- words and both passes fit together. What is sent there and how that left is another ring's to represent
 pub record Represents (capacity : ℕ) (m : RingMoment) (c : RingState) : Type 0 where
   pub released : c.released ≡ m.writer.put
   pub reclaimed : c.reclaimed ≡ length m.reader.got

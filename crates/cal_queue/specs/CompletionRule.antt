@@ -15,7 +15,8 @@ pub record ValuesFit (capacity : ℕ) (put got : List ℕ) : Type 0 where
   pub got_first : got ≡ take (length got) put
   pub room : length put ≤ length got + capacity
 
--- The putting end's pass. A value that is to be put lies in the next slot, which is free, and its position can be counted
+-- The putting end's pass. A value that is to be put lies in the next slot, which is free, and its position can be
+-- counted
 pub record WriterFits (capacity : ℕ) (words got : List ℕ) (p : PutPass) : Type 0 where
   pub sized : p.capacity ≡ capacity
   pub read_within : p.seen_read ≤ length got

@@ -1,5 +1,5 @@
--- What each step on the table of a completion ring tells the end that makes it: its own new pass, and of the other end no
--- more than that a position is at most, or at least, some number.
+-- What each step on the table of a completion ring tells the end that makes it: its own new pass, and of the other end
+-- no more than that a position is at most, or at least, some number.
 use Rattle.std.specs.Prelude.{◌≡◌, ℕ, ◌+◌, ◌≤◌, length, take}
 use Rattle.atomic_table.specs.Table.{Me, Step}
 use Rattle.cal_queue.specs.CompletionPass.{after_read_load, after_slot_look, after_write_look, after_read_store, after_slot_store, after_write_store}
@@ -39,7 +39,8 @@ ReaderLoadsSlot step me value me' = me' ≡ with_reader me (after_slot_look valu
 abbrev pub ReaderStoresRead : Step (Unit {0}) → End → ℕ → End → Type 0
 ReaderStoresRead step me position me' = me' ≡ with_reader me (after_read_store me.0.reader)
 
--- with both ends in hand: what was got is the beginning of what was put, and some schedule released and reclaimed as much
+-- with both ends in hand: what was got is the beginning of what was put, and some schedule released and reclaimed as
+-- much
 pub record IsSettled (writer : PutPass) (reader : GetPass) : Type 0 where
   pub got_first : reader.got ≡ take (length reader.got) writer.put
   pub read_within : length reader.got ≤ length writer.put

@@ -1,8 +1,8 @@
--- A ring as a machine, which both rings are: its moments, the steps of its two ends in any order, and the states that its
--- moments represent. What holds of each step holds of each run.
+-- A ring as a machine, which both rings are: its moments, the steps of its two ends in any order, and the states that
+-- its moments represent. What holds of each step holds of each run.
 use Rattle.std.specs.Prelude.{◌≡◌, ℕ, List, [], ◌∷◌, ◌++◌}
 use Rattle.std.proofs.Common.{refl, sym, subst}
-use Rattle.cal_queue.specs.RingState.{Bounds, Event, IsSchedule, MayHappen, RingState, after_event}
+use Rattle.cal_queue.specs.RingState.{Bounds, Event, IsSchedule, RingState, after_event}
 
 -- what there is between two steps: the words, and what each end knows
 pub record Moment (P Q : Type 0) : Type 0 where

@@ -1,6 +1,6 @@
 -- The two rings of a channel by what happened on them. Values are sent into the submission ring, and each leaves it by
--- being received, or by overflowing back to the sender. What was received is later released into the completion ring, and
--- reclaimed from it. No words of memory are spoken of here: a ring's rule says which state its words represent.
+-- being received, or by overflowing back to the sender. What was received is later released into the completion ring,
+-- and reclaimed from it. No words of memory are spoken of here: a ring's rule says which state its words represent.
 use Rattle.std.specs.Prelude.{◌≡◌, ℕ, ◌+◌, ◌-◌, ◌<◌, ◌≤◌, Bool, true, false, List, [], ◌∷◌, ◌++◌, length, if◌then◌else◌}
 
 -- how a value left the submission ring
@@ -41,7 +41,8 @@ pub record Bounds : Type 0 where
   pub buffer : ℕ
   pub completion : ℕ
 
--- when each event may happen. Between a send and the overflow that it causes, one value more than the buffer holds is queued
+-- when each event may happen. Between a send and the overflow that it causes, one value more than the buffer holds is
+-- queued
 abbrev pub MayHappen : Bounds → RingState → Event → Type 0
 MayHappen b c (sends value) = queued_count c ≤ b.buffer
 MayHappen b c overflows = queued_count c ≡ b.buffer + 1

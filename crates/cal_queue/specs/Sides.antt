@@ -1,5 +1,5 @@
--- The rule that both rings of a channel share: each side of a ring is in one hand, and the words and the two sides' passes
--- fit together.
+-- The rule that both rings of a channel share: each side of a ring is in one hand, and the words and the two sides'
+-- passes fit together.
 use Rattle.std.specs.Prelude.{◌≡◌, ℕ, true, false, List}
 use mathlib.Core.Option.{some}
 use lib.ListN.{get_elem?}
@@ -20,15 +20,17 @@ module _ {P Q : Type 0} where
   spent_sides p q = record { writes = false; reads = false; writer = p; reader = q }
 
   -- One seat has the writing side with its pass, and one seat the reading side with its pass; they may be one seat. The
-  -- words and the two passes meet `Sound`. A view with no flag is spent_sides, and nothing is said of it
+  -- words and the two passes meet `Sound`. A view with no flag is spent, and nothing is said of it
   pub record HasTwoSides {S : Type 0} (Sound : List ℕ → P → Q → Type 0) (s : State S (Sided P Q)) : Type 0 where
     pub writing_seat : ℕ
     pub reading_seat : ℕ
     pub writer : P
     pub reader : Q
     pub sound : Sound s.words writer reader
-    pub only_writer : (seat : ℕ) (v : Sided P Q) → get_elem? s.views seat ≡ some v → v.writes ≡ true → (seat ≡ writing_seat) × (v.writer ≡ writer)
-    pub only_reader : (seat : ℕ) (v : Sided P Q) → get_elem? s.views seat ≡ some v → v.reads ≡ true → (seat ≡ reading_seat) × (v.reader ≡ reader)
+    pub only_writer : (seat : ℕ) (v : Sided P Q) → get_elem? s.views seat ≡ some v → v.writes ≡ true
+        → (seat ≡ writing_seat) × (v.writer ≡ writer)
+    pub only_reader : (seat : ℕ) (v : Sided P Q) → get_elem? s.views seat ≡ some v → v.reads ≡ true
+        → (seat ≡ reading_seat) × (v.reader ≡ reader)
     pub one_writer : (v : Sided P Q) × (get_elem? s.views writing_seat ≡ some v) × (v.writes ≡ true)
     pub one_reader : (v : Sided P Q) × (get_elem? s.views reading_seat ≡ some v) × (v.reads ≡ true)
 

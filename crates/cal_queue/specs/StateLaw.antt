@@ -15,7 +15,8 @@ EveryOpening = (o : OpeningWords) → o.port ≤ 3 → IsSoundTable o (opening_w
 -- a step of any seat, taken at words and passes that meet the rule, leaves words and passes that meet it
 abbrev pub EveryStep : Type 0
 EveryStep = (o : OpeningWords) (words : List ℕ) (passes : List StatePass) (by : ℕ) (p : StatePass) (s : StateStep)
-    → IsSoundTable o words passes → get_elem? passes by ≡ some p → MayStep words s → IsSoundTable o (words_after words s) (slice_set passes by (after_step p s))
+    → IsSoundTable o words passes → get_elem? passes by ≡ some p → MayStep words s
+    → IsSoundTable o (words_after words s) (slice_set passes by (after_step p s))
 
 -- steps of any number of seats, from the opening words on, lead to a port word that a port may have
 abbrev pub EveryRun : Type 0

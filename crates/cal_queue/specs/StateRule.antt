@@ -7,7 +7,7 @@ use Rattle.cal_queue.specs.declared.state_table.pass.OpeningWords.{OpeningWords}
 use Rattle.cal_queue.specs.declared.state_table.pass.StatePass.{StatePass}
 use Rattle.cal_queue.specs.StateTable.{IsPortWord, IsRun, IsWitnessed, TakenStep, exchange_step, load_step, opening_words, port_index, steps_of, steps_of_all, after_step}
 
--- the pass of a seat has just the steps that it after_step
+-- the pass of a seat has just the steps that it took
 pub record Knows (o : OpeningWords) (taken : List TakenStep) (by : ℕ) (p : StatePass) : Type 0 where
   pub opening : p.opening ≡ o
   pub steps : p.steps ≡ steps_of by taken
@@ -30,7 +30,7 @@ pub record Loads (s : Step (Unit {0})) (before : Seated) (found : ℕ) (after : 
   pub witnessed : IsWitnessed after.0
   pub port : s.word ≡ port_index → IsPortWord found
 
--- an exchange adds to the pass that it saw the word found, and what it write_step if that was the one expected
+-- an exchange adds to the pass that it saw the word found, and what it wrote if that was the one expected
 pub record Exchanges (s : Step (Unit {0})) (before : Seated) (found : ℕ) (after : Seated) : Type 0 where
   pub pass : after.0 ≡ after_step before.0 (exchange_step s.word s.first s.second found)
   pub witnessed : IsWitnessed after.0

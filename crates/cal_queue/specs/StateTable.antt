@@ -37,7 +37,8 @@ pub record LeavesMark (bit seen written : ℕ) : Type 0 where
 
 -- the changes of a port word
 abbrev pub MayChange : ℕ → ℕ → Type 0
-MayChange seen written = (bit : ℕ) × IsPortBit bit × (Joins bit seen written ⊎ (LeavesOther bit seen written ⊎ LeavesMark bit seen written))
+MayChange seen written = (bit : ℕ) × IsPortBit bit
+    × (Joins bit seen written ⊎ (LeavesOther bit seen written ⊎ LeavesMark bit seen written))
 
 -- the index of the port word, and that of a channel's word
 abbrev pub port_index : ℕ
@@ -50,7 +51,7 @@ channel_index channel = channel + 1
 abbrev pub opening_words : OpeningWords → List ℕ
 opening_words o = o.port ∷ replicate o.channels o.initial
 
--- a step that write_step nothing, and one that write_step a word
+-- a step that wrote nothing, and one that wrote a word
 abbrev pub load_step : ℕ → ℕ → StateStep
 load_step index seen = record { index = index; seen = seen; written = None }
 
@@ -61,7 +62,7 @@ write_step index seen word = record { index = index; seen = seen; written = Some
 abbrev pub exchange_step : ℕ → ℕ → ℕ → ℕ → StateStep
 exchange_step index expected word seen = if seen == expected then write_step index seen word else load_step index seen
 
--- the words after a step: at its index stands what it write_step, or else what it saw
+-- the words after a step: at its index stands what it wrote, or else what it saw
 abbrev pub words_after : List ℕ → StateStep → List ℕ
 words_after words s = slice_set words s.index (unwrap_or s.written s.seen)
 
@@ -77,7 +78,7 @@ abbrev pub IsRun : List ℕ → List StateStep → List ℕ → Type 0
 IsRun first [] last = last ≡ first
 IsRun first (s ∷ steps) last = MayStep first s × IsRun (words_after first s) steps last
 
--- a step, and the number of the seat that after_step it
+-- a step, and the number of the seat that took it
 pub record TakenStep : Type 0 where
   pub by : ℕ
   pub step : StateStep

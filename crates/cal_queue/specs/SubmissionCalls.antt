@@ -1,5 +1,5 @@
--- What the calls of a submission ring's two ends do, as a caller of one end knows it: by the pass of that end, which only
--- its own steps change. Each answer tells which steps the call took.
+-- What the calls of a submission ring's two ends do, as a caller of one end knows it: by the pass of that end, which
+-- only its own steps change. Each answer tells which steps the call took.
 use Rattle.std.specs.Prelude.{◌≡◌, ℕ, ◌+◌, ◌-◌, ◌^◌, ◌<◌, ◌⊎◌, Bool, IsFalse, IsTrue, List, [], ◌∷◌, ◌++◌, length, slice_get, Option, Some, None, Result, Ok, Err}
 use Rattle.cal_queue.specs.RingState.{IsSubmitted, Tag, overflowed, received, tagged_positions}
 use Rattle.cal_queue.specs.SubmissionPass.{after_lost_exchange, after_miss, after_read_load, after_read_look, after_slot_look, after_stores, after_take, after_won_exchange, after_write_look}
@@ -45,8 +45,8 @@ pub record Sends (value : ℕ) (before after : SendPass) : Type 0 where
   pub room : length before.sent < position + before.buffer
   pub steps : after ≡ after_send position value before
 
--- one load of the read position showed that as many values waited as the buffer holds. The value was sent after all others,
--- and by the exchange that followed the oldest one overflowed, with the value that was sent there
+-- one load of the read position showed that as many values waited as the buffer holds. The value was sent after all
+-- others, and by the exchange that followed the oldest one overflowed, with the value that was sent there
 pub record Overflows (oldest value : ℕ) (before after : SendPass) : Type 0 where
   pub position : ℕ
   pub full : length before.sent ≡ position + before.buffer
@@ -102,14 +102,16 @@ pub record LosesTurns (before after : TakePass) : Type 0 where
   pub turns : List LostTurn
   pub steps : after ≡ after_lost_turns turns before
 
--- after some lost turns, both positions were loaded and a value waited; it was loaded, and the exchange that followed took it
+-- after some lost turns, both positions were loaded and a value waited; it was loaded, and the exchange that followed
+-- took it
 pub record Takes (value : ℕ) (before after : TakePass) : Type 0 where
   pub turns : List LostTurn
   pub read : ℕ
   pub write : ℕ
   pub waits : read < write
   pub steps : after
-      ≡ after_take (after_slot_look value (after_write_look write (after_read_look read (after_lost_turns turns before))))
+      ≡ after_take (after_slot_look value
+      (after_write_look write (after_read_look read (after_lost_turns turns before))))
 
 -- after some lost turns, both positions were loaded, and the write position was found where the read position had been
 -- before

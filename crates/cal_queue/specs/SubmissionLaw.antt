@@ -1,5 +1,5 @@
--- The submission ring as a machine: its steps, when each may be taken, the moment after it, the event that it means, and
--- the states that its moments represent.
+-- The submission ring as a machine: its steps, when each may be taken, the moment after it, the event that it means,
+-- and the states that its moments represent.
 use Rattle.std.specs.Prelude.{◌≡◌, ℕ, ◌+◌, ◌-◌, ◌^◌, ◌<◌, ◌≤◌, ◌==◌, Bool, true, false, List, [], ◌∷◌, length, map, replicate, slice_index, slice_set, Option, Some, None, IsSome, nat_lt, if◌then◌else◌, ⊤}
 use Rattle.std.specs.Option.{option_to_list}
 use Rattle.cal_queue.specs.RingMachine.{Machine, Moment}
@@ -70,8 +70,8 @@ after_step buffer m reader_exchanges_read =
     then record m { words = slice_set m.words 0 (m.reader.seen_read + 1); reader = after_take m.reader }
     else record m { reader = after_miss m.reader }
 
--- the event of each step: the store of the write position sends, an exchange that the sender wins overflows, one that the
--- taker wins receives, and no other step is an event
+-- the event of each step: the store of the write position sends, an exchange that the sender wins overflows, one that
+-- the taker wins receives, and no other step is an event
 abbrev pub events_of : RingMoment → RingStep → List Event
 events_of m writer_loads_read = []
 events_of m (writer_stores_slot value) = []
@@ -82,8 +82,8 @@ events_of m reader_loads_write = []
 events_of m reader_loads_slot = []
 events_of m reader_exchanges_read = if slice_index m.words 0 == m.reader.seen_read then receives ∷ [] else []
 
--- a moment represents a state: its values are those sent, and its tags fit the words and both passes. What is released and
--- reclaimed there is another ring's to represent
+-- a moment represents a state: its values are those sent, and its tags fit the words and both passes. What is released
+-- and reclaimed there is another ring's to represent
 pub record Represents (buffer : ℕ) (m : RingMoment) (c : RingState) : Type 0 where
   pub sent : c.sent ≡ m.writer.sent
   pub fits : Fits buffer m.words m.writer m.reader c.tags

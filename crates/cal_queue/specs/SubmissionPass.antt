@@ -51,7 +51,10 @@ after_stores value p = after_write_store (after_slot_store value p)
 
 -- the sender has moved the read position on, so that the oldest value comes back
 abbrev pub after_won_exchange : SendPass → SendPass
-after_won_exchange p = record p { overflowed = p.overflowed ++ (p.seen_read, slice_index p.sent p.seen_read) ∷ []; exchange_due = false }
+after_won_exchange p = record p {
+  overflowed = p.overflowed ++ (p.seen_read, slice_index p.sent p.seen_read) ∷ [];
+  exchange_due = false;
+}
 
 -- the other end had moved the read position on
 abbrev pub after_lost_exchange : SendPass → SendPass
@@ -59,7 +62,12 @@ after_lost_exchange p = record p { lost_exchanges = p.lost_exchanges + 1; exchan
 
 -- the taker has loaded the read position, and what it had loaded before is out of date
 abbrev pub after_read_look : ℕ → TakePass → TakePass
-after_read_look position p = record p { seen_read = position; seen_write = None; seen_value = None; read_loads = p.read_loads + 1 }
+after_read_look position p = record p {
+  seen_read = position;
+  seen_write = None;
+  seen_value = None;
+  read_loads = p.read_loads + 1;
+}
 
 -- the taker has loaded the write position
 abbrev pub after_write_look : ℕ → TakePass → TakePass

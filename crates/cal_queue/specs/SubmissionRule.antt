@@ -24,8 +24,8 @@ pub record WriterFits (buffer : ℕ) (words : List ℕ) (tags : List Tag) (p : S
   pub to_send_room : (value : ℕ) → p.to_send ≡ Some value → length p.sent ≤ p.seen_read + buffer
   pub to_send_counts : (value : ℕ) → p.to_send ≡ Some value → length p.sent < 2 ^ 64 - 1
 
--- The taker's pass. A value that it has loaded was queued, and is the one that was sent there unless its position has left
--- the ring meanwhile
+-- The taker's pass. A value that it has loaded was queued, and is the one that was sent there unless its position has
+-- left the ring meanwhile
 pub record ReaderFits (buffer : ℕ) (sent : List ℕ) (tags : List Tag) (p : TakePass) : Type 0 where
   pub sized : p.buffer ≡ buffer
   pub received_tagged : p.received ≡ tagged_positions received 0 tags sent
@@ -37,8 +37,8 @@ pub record ReaderFits (buffer : ℕ) (sent : List ℕ) (tags : List Tag) (p : Ta
   pub value_sent : (value : ℕ) → p.seen_value ≡ Some value
       → length tags ≡ p.seen_read → slice_index sent p.seen_read ≡ value
 
--- the words and both passes fit together, where the values at the first positions left the ring with these tags. There is
--- one slot more than the buffer, for the value that makes the oldest one overflow
+-- the words and both passes fit together, where the values at the first positions left the ring with these tags. There
+-- is one slot more than the buffer, for the value that makes the oldest one overflow
 pub record Fits (buffer : ℕ) (words : List ℕ) (writer : SendPass) (reader : TakePass) (tags : List Tag) : Type 0 where
   pub words_fit : WordsFit (buffer + 1) words writer.sent (length tags)
   pub writer_fits : WriterFits buffer words tags writer

@@ -1,5 +1,5 @@
-//! The words of a ring's table, which both rings lay out alike: the read position, the write position, and then the slots,
-//! which the positions use in turn.
+//! The words of a ring's table, which both rings lay out alike: the read position, the write position, and then the
+//! slots, which the positions use in turn.
 ghost use Rattle.std.specs.Prelude.{◌≡◌, ℕ, ◌+◌, ◌%◌, ◌^◌, ◌<◌};
 
 // The index of the word that counts the positions that were left behind.

@@ -1,7 +1,8 @@
-//! The queue of a channel for two threads. One end sends and the other takes, each from a thread of its own and without a
-//! lock: a sender never waits, and with overflow a full ring gives its oldest value back instead of refusing. The layer
-//! above may rely on each value sent being received or given back at most once, in the order of sending, and on `rest`,
-//! which joins both ends and says that nothing was lost.
+//! The queue of a channel for two threads, in place of the original's `safely_overflowing_index_queue` (`spsc` of
+//! iceoryx2-bb-lock-free). One end sends and the other takes, each from a thread of its own and without a lock: a
+//! sender never waits, and with overflow the oldest value of a full ring comes back instead of a refusal. The layer
+//! above may rely on each value sent being received or overflowing at most once, in the order of sending, and on
+//! `rest`, which joins both ends and says that nothing was lost.
 ghost use Rattle.std.specs.Prelude.{◌≡◌, ◌+◌, ◌^◌, ◌<◌, ◌≤◌, replicate, IfOk};
 ghost use Rattle.cal_queue.specs.SubmissionPass.{new_send_pass, new_take_pass};
 ghost use Rattle.cal_queue.specs.SubmissionCalls.{send_pass, take_pass, IsOneRing};
@@ -31,7 +32,8 @@ use std::alloc::{AllocError, Global};
 use std::sync::Arc;
 pub use take_seat::TakeSeat;
 
-/// A ring for two threads, which is used by its two ends.
+/// The maker of a ring's two ends. No value of it is needed.
+#[derive(Clone, Copy, Debug)]
 pub struct SubmissionRing;
 
 fn zeros(alloc: Global, count: usize) -> Result<Vec<u64>, AllocError>
@@ -41,8 +43,8 @@ fn zeros(alloc: Global, count: usize) -> Result<Vec<u64>, AllocError>
 }
 
 impl SubmissionRing {
-    /// The two ends of a ring in which `buffer` values may wait between two calls. All the memory that they ever need is
-    /// taken here; the error is want of that memory.
+    /// The two ends of a ring in which at most `buffer` values wait between two calls. All the memory that they ever
+    /// need is taken here; the error is out of memory, and nothing is left of the ring then.
     pub fn new(alloc: Global, buffer: usize) -> Result<(SendSeat, TakeSeat), AllocError>
         requires some { 1 ≤ buffer }
         requires most { buffer < 2 ^ 32 }

@@ -1,4 +1,4 @@
--- How many steps write_step, where one step more is taken.
+-- How many steps wrote, where one step more is taken.
 use Rattle.std.proofs.Common.{◌≡◌, ℕ, ◌+◌, ◌<◌, List, [], ◌∷◌, ◌++◌, is_some, if◌then◌else◌, ap, ◌∙◌, arith}
 use Rattle.cal_queue.specs.declared.state_table.pass.StatePass.{StatePass}
 use Rattle.cal_queue.specs.declared.state_table.pass.StateStep.{StateStep}
@@ -13,7 +13,7 @@ writes-more (x ∷ xs) s =
     let r : writes (xs ++ s ∷ []) ≡ writes xs + n = writes-more xs s in
     let e : m + writes (xs ++ s ∷ []) ≡ (m + writes xs) + n = omega arith in e
 
--- after a step that write_step nothing, and after one that write_step
+-- after a step that wrote nothing, and after one that wrote
 pub writes-looked : (before after : StatePass) (index seen n : ℕ) → after ≡ after_step before (load_step index seen) → writes before.steps ≡ n → writes after.steps ≡ n
 writes-looked before after index seen n is count =
     let more = ap (λ (p : StatePass). writes p.steps) is ∙ writes-more before.steps (load_step index seen) in omega arith

@@ -30,7 +30,8 @@ pub(super) fn take(table: &RingTable, seat: &mut RingSeat, slot: usize, read: u6
     requires waits { read < seat.old.me.0.reader.seen_write }
     requires counts { read < 2 ^ 64 - 1 }
     ensures seated { seat.new.table_id ≡ seat.old.table_id }
-    ensures taken { seat.new.me ≡ with_reader seat.old.me (after_read_store (after_slot_look result seat.old.me.0.reader)) }
+    ensures taken { seat.new.me
+        ≡ with_reader seat.old.me (after_read_store (after_slot_look result seat.old.me.0.reader)) }
 {
     let words = &table.shared;
     let value = words.load::<ReaderLoadsSlot>(seat, slot);

@@ -1,4 +1,4 @@
-//! A ring at rest: both ends come together, and their counts are compared.
+//! A ring at rest: both ends come together, and what became of the values is counted.
 ghost use Rattle.std.specs.Prelude.{◌≡◌, ◌+◌, ◌≤◌, length, take};
 ghost use Rattle.cal_queue.specs.CompletionCalls.{IsOneRing, get_pass, put_pass};
 ghost use Rattle.cal_queue.specs.RingState.{IsCompleted};
@@ -9,20 +9,23 @@ use super::put_seat::PutSeat;
 use super::rule::Meeting;
 use crate::ring_words::READ_POSITION;
 
-/// How many values were put, how many of them were got, and how many are left.
-#[derive(Debug, Clone, Copy, PartialEq, Eq)]
+/// What became of the values that were put into a ring: `put` is the sum of the other two counts.
+#[derive(Clone, Copy, PartialEq, Eq, Debug)]
 pub struct CompletionRest {
+    /// How many values were put.
     pub put: usize,
+    /// How many of them were got: they are the first ones.
     pub got: usize,
+    /// How many are still in the ring: at most its capacity.
     pub left: usize,
 }
 
-/// Takes both ends of a ring, and counts what went through it.
+/// Takes both ends of a ring, and counts what became of the values.
 pub fn rest_completion(put: PutSeat, get: GetSeat) -> CompletionRest
-    requires { IsOneRing put get }
+    requires one_ring { IsOneRing put get }
     ensures put { result.put ≡ length (put_pass put).put }
     ensures got { result.got ≡ length (get_pass get).got }
-    ensures left { result.got + result.left ≡ result.put }
+    ensures adds_up { result.put ≡ result.got + result.left }
     ensures within { result.left ≤ (put_pass put).capacity }
     ensures got_first { (get_pass get).got ≡ take result.got (put_pass put).put }
     ensures completed { IsCompleted (put_pass put).capacity (put_pass put).put result.got }

@@ -9,20 +9,22 @@ use super::send_seat::SendSeat;
 use super::take_seat::TakeSeat;
 use crate::ring_words::READ_POSITION;
 
-/// What became of the values that were sent into a ring.
+/// What became of the values that were sent into a ring: `sent` is the sum of the other three counts.
 #[derive(Clone, Copy, PartialEq, Eq, Debug)]
 pub struct RingRest {
+    /// How many values were sent.
     pub sent: usize,
+    /// How many the taking end received.
     pub received: usize,
-    /// How many came back to the sender, since the ring was full.
+    /// How many overflowed, and so came back to the sender.
     pub returned: usize,
-    /// How many are still in the ring.
+    /// How many are still in the ring: at most as many as its buffer holds.
     pub left: usize,
 }
 
-/// Joins the two ends of a ring again, and says what became of the values.
+/// Takes both ends of a ring, and counts what became of the values.
 pub fn rest(send: SendSeat, take: TakeSeat) -> RingRest
-    requires { IsOneRing send take }
+    requires one_ring { IsOneRing send take }
     ensures sent { result.sent ≡ length (send_pass send).sent }
     ensures received { result.received ≡ length (take_pass take).received }
     ensures returned { result.returned ≡ length (send_pass send).overflowed }

@@ -23,7 +23,7 @@ pub(super) fn load_read(table: &RingTable, seat: &mut RingSeat) -> u64
     table.shared.load::<WriterLoadsRead>(seat, READ_POSITION)
 }
 
-/// Stores the value into its slot, and then the write position behind it.
+/// Stores the value into its slot, and then the write position after it.
 pub(super) fn append(table: &RingTable, seat: &mut RingSeat, slot: usize, written: u64, value: u64)
     requires seated { seat.old.table_id ≡ table.now.shared.table_id }
     requires sized { table.now.shared.table_id.words ≡ table.now.shared.key + 3 }
@@ -34,7 +34,8 @@ pub(super) fn append(table: &RingTable, seat: &mut RingSeat, slot: usize, writte
     requires room { written ≤ seat.old.me.0.writer.seen_read + table.now.shared.key }
     requires counts { written < 2 ^ 64 - 1 }
     ensures seated { seat.new.table_id ≡ seat.old.table_id }
-    ensures appended { seat.new.me ≡ with_writer seat.old.me (after_write_store (after_slot_store value seat.old.me.0.writer)) }
+    ensures appended { seat.new.me
+        ≡ with_writer seat.old.me (after_write_store (after_slot_store value seat.old.me.0.writer)) }
 {
     table.shared.store::<WriterStoresSlot>(seat, slot, value);
     table

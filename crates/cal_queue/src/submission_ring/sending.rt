@@ -1,5 +1,5 @@
-//! The calls of the sending end. A push is a load, two stores and at most one exchange; it takes no memory and waits for
-//! nobody.
+//! The calls of the sending end. A push is a load, two stores and at most one exchange; it takes no memory and waits
+//! for nobody.
 ghost use Rattle.std.specs.Prelude.{◌≡◌, ◌+◌, ◌-◌, ◌%◌, ◌^◌, ◌<◌, ◌≤◌, ◌↔◌, ◌⊎◌, [], ◌∷◌, ◌++◌, length, IsTrue, IsFalse, IfSome, IfNone, IfOk, IsOk, OnOk, OnErr, slice_get, Some, None, Ok, Err};
 
 use super::send_seat::SendSeat;
@@ -24,7 +24,8 @@ impl SendSeat {
 
     // Sends a value where the last look showed room.
     fn send(&mut self, value: u64)
-        requires room { length (send_pass self.old).sent < (send_pass self.old).seen_read + (send_pass self.old).buffer }
+        requires room { length (send_pass self.old).sent
+            < (send_pass self.old).seen_read + (send_pass self.old).buffer }
         requires counts { length (send_pass self.old).sent < 2 ^ 64 - 1 }
         ensures same_end { SameSendEnd self.old self.new }
         ensures sent { send_pass self.new ≡ after_stores value (send_pass self.old) }
@@ -43,15 +44,19 @@ impl SendSeat {
 
     // Sends a value where the last look showed none, and tries to take the oldest one back.
     fn send_with_overflow(&mut self, value: u64) -> Option<u64>
-        requires full { length (send_pass self.old).sent ≡ (send_pass self.old).seen_read + (send_pass self.old).buffer }
+        requires full { length (send_pass self.old).sent
+            ≡ (send_pass self.old).seen_read + (send_pass self.old).buffer }
         requires counts { length (send_pass self.old).sent < 2 ^ 64 - 1 }
         ensures same_end { SameSendEnd self.old self.new }
         ensures sent { (send_pass self.new).sent ≡ (send_pass self.old).sent ++ value ∷ [] }
-        ensures back { IfSome result (λ oldest. send_pass self.new ≡ after_won_exchange (after_stores value (send_pass self.old))) }
+        ensures back { IfSome result
+            (λ oldest. send_pass self.new ≡ after_won_exchange (after_stores value (send_pass self.old))) }
         ensures overflowed { IfSome result (λ oldest.
-            ((send_pass self.new).overflowed ≡ (send_pass self.old).overflowed ++ ((send_pass self.old).seen_read, oldest) ∷ [])
+            ((send_pass self.new).overflowed
+            ≡ (send_pass self.old).overflowed ++ ((send_pass self.old).seen_read, oldest) ∷ [])
             × (slice_get (send_pass self.new).sent (send_pass self.old).seen_read ≡ Some oldest)) }
-        ensures lost { IfNone result (send_pass self.new ≡ after_lost_exchange (after_stores value (send_pass self.old))) }
+        ensures lost { IfNone result (send_pass self.new
+            ≡ after_lost_exchange (after_stores value (send_pass self.old))) }
     {
         let read = self.written - self.buffer;
         append(
@@ -71,13 +76,14 @@ impl SendSeat {
         Some(self.copy[self.index])
     }
 
-    /// Sends a value behind all others. With `overflow` a full ring takes it too, and its oldest value comes back, unless
-    /// it is received meanwhile.
+    /// Sends a value after all others. With `overflow` a full ring takes it too, and its oldest value overflows: it
+    /// comes back, unless it is received meanwhile. After a refusal the ring is as before.
     pub fn push(&mut self, value: u64, overflow: bool) -> Result<Option<u64>, PushRefusal>
         ensures same_end { SameSendEnd self.old self.new }
         ensures is_push { IsPush overflow value result (send_pass self.old) (send_pass self.new) }
         ensures appended { OnOk result ((send_pass self.new).sent ≡ (send_pass self.old).sent ++ value ∷ []) }
-        ensures none_overflowed { IfOk result (λ back. IfNone back ((send_pass self.new).overflowed ≡ (send_pass self.old).overflowed)) }
+        ensures none_overflowed { IfOk result
+            (λ back. IfNone back ((send_pass self.new).overflowed ≡ (send_pass self.old).overflowed)) }
         ensures refused { OnErr result (SameLists (send_pass self.old) (send_pass self.new)) }
         ensures taken_with_overflow { IsTrue overflow → length (send_pass self.old).sent < 2 ^ 64 - 1 → IsOk result }
         ensures used_up { (result ≡ Err PositionsUsedUp) ↔ (length (send_pass self.old).sent ≡ 2 ^ 64 - 1) }
@@ -96,12 +102,13 @@ impl SendSeat {
         Ok(self.send_with_overflow(value))
     }
 
-    /// Whether fewer values wait than may, by one look. Only this end adds values, so the answer `true` stays right until
-    /// its next push.
+    /// Whether fewer values wait than may, by one look. Only this end adds values, so the answer `true` stays right
+    /// until its next push.
     pub fn has_room(&mut self) -> bool
         ensures same_end { SameSendEnd self.old self.new }
         ensures one_look { LoadsOnce (send_pass self.old) (send_pass self.new) }
-        ensures full { IsFalse result ↔ (length (send_pass self.old).sent ≡ (send_pass self.new).seen_read + (send_pass self.new).buffer) }
+        ensures full { IsFalse result
+            ↔ (length (send_pass self.old).sent ≡ (send_pass self.new).seen_read + (send_pass self.new).buffer) }
     {
         let read = self.look();
         self.written - read < self.buffer

@@ -14,7 +14,8 @@ pub(super) fn load_positions(table: &RingTable, seat: &mut RingSeat) -> (u64, u6
     requires sized { table.now.shared.table_id.words ≡ table.now.shared.key + 3 }
     requires takes { seat.old.me.0.reads ≡ true }
     ensures seated { seat.new.table_id ≡ seat.old.table_id }
-    ensures looked { seat.new.me ≡ with_reader seat.old.me (after_write_look result.1 (after_read_look result.0 seat.old.me.0.reader)) }
+    ensures looked { seat.new.me
+        ≡ with_reader seat.old.me (after_write_look result.1 (after_read_look result.0 seat.old.me.0.reader)) }
     ensures within { result.0 ≤ result.1 }
 {
     let read = table.shared.load::<ReaderLoadsRead>(seat, READ_POSITION);
@@ -22,7 +23,8 @@ pub(super) fn load_positions(table: &RingTable, seat: &mut RingSeat) -> (u64, u6
     (read, written)
 }
 
-/// Loads the slot of the read position, and tries to move that position on by one. Without an answer the sender was faster.
+/// Loads the slot of the read position, and tries to move that position on by one. Without an answer the sender was
+/// faster.
 pub(super) fn take(
     table: &RingTable,
     seat: &mut RingSeat,
@@ -37,7 +39,8 @@ pub(super) fn take(
     requires loaded { (read ≡ seat.old.me.0.reader.seen_read) × (seat.old.me.0.reader.seen_write ≡ Some written) }
     requires queued_count { read < written }
     ensures seated { seat.new.table_id ≡ seat.old.table_id }
-    ensures taken { IfSome result (λ value. seat.new.me ≡ with_reader seat.old.me (after_take (after_slot_look value seat.old.me.0.reader))) }
+    ensures taken { IfSome result
+        (λ value. seat.new.me ≡ with_reader seat.old.me (after_take (after_slot_look value seat.old.me.0.reader))) }
     ensures fewer { IfSome result (λ value. length seat.old.me.0.reader.received ≤ read) }
     ensures lost { IfNone result (seat.new.me ≡ with_reader seat.old.me (after_miss seat.old.me.0.reader)) }
 {

@@ -12,7 +12,8 @@ impl TakeSeat {
 
     fn look(&mut self) -> (u64, u64)
         ensures same_end { SameTakeEnd self.old self.new }
-        ensures looked { take_pass self.new ≡ after_write_look result.1 (after_read_look result.0 (take_pass self.old)) }
+        ensures looked { take_pass self.new
+            ≡ after_write_look result.1 (after_read_look result.0 (take_pass self.old)) }
         ensures within { result.0 ≤ result.1 }
     {
         load_positions(&self.table, &mut self.seat)
@@ -34,7 +35,8 @@ impl TakeSeat {
         requires looked { (read ≡ (take_pass self.old).seen_read) × ((take_pass self.old).seen_write ≡ Some written) }
         requires queued_count { read < written }
         ensures same_end { SameTakeEnd self.old self.new }
-        ensures taken { IfSome result (λ value. take_pass self.new ≡ after_take (after_slot_look value (take_pass self.old))) }
+        ensures taken { IfSome result
+            (λ value. take_pass self.new ≡ after_take (after_slot_look value (take_pass self.old))) }
         ensures lost { IfNone result (take_pass self.new ≡ after_miss (take_pass self.old)) }
     {
         let index = self.index_of(read);
@@ -51,7 +53,7 @@ impl TakeSeat {
         Some(value)
     }
 
-    /// Takes the oldest value, if one waits. It tries again where the sender after_take that value back meanwhile.
+    /// Takes the oldest value, if one waits. It tries again where the sender took that value back meanwhile.
     pub fn pop<R: Wait>(&mut self, rt: &R) -> Option<u64>
         ensures same_end { SameTakeEnd self.old self.new }
         ensures is_pop { IsPop result (take_pass self.old) (take_pass self.new) }

@@ -6,7 +6,7 @@ use Rattle.cal_queue.proofs.SidedTables.{sides_split}
 use Rattle.cal_queue.proofs.completion_ring.CompletionRing.new.Goals as goal
 
 pub of_words-requires : goal.of_words-requires
-of_words-requires c = new_ring-sound c.args.capacity _ c.requires.some_room (search rules)
+of_words-requires c = new_ring-sound c.args.capacity _ c.requires.some (search rules)
 
 pub split_seat-other-requires : goal.split_seat-other-requires
 split_seat-other-requires c =

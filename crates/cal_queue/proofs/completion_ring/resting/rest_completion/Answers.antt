@@ -1,4 +1,4 @@
-use Rattle.std.proofs.Common.{ℕ, rules, arith, ap, refl, sym, subst}
+use Rattle.std.proofs.Common.{ℕ, rules, ap, refl, sym, subst}
 use Rattle.cal_queue.specs.CompletionCalls.{put_pass}
 use Rattle.cal_queue.specs.CompletionSteps.{End, IsSettled}
 use Rattle.cal_queue.specs.RingState.{IsCompleted}
