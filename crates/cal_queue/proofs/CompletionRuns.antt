@@ -1,5 +1,5 @@
 -- Each step of a completion ring is an event of the state that it represents, or none.
-use Rattle.std.proofs.Common.{◌∙◌, ◌≡◌, ℕ, ◌+◌, ◌≤◌, List, [], ◌∷◌, ◌++◌, length, map, replicate, Option, Some, None, IsSome, refl, sym, ap, subst, arith, length-append}
+use Rattle.std.proofs.Common.{◌∙◌, ◌≡◌, ℕ, ◌+◌, ◌≤◌, List, [], ◌∷◌, ◌++◌, length, map, replicate, Option, Some, refl, sym, ap, subst, arith, length-append}
 use Rattle.std.proofs.lemmas.List.{get_or-replicate, length-replicate}
 use Rattle.std.specs.Option.{option_to_list}
 use Rattle.cal_queue.specs.CompletionLaw.{MayStep, Represents, RingMoment, RingStep, after_step, completion_machine, events_of, new_ring, reader_loads_slot, reader_loads_write, reader_stores_read, writer_loads_read, writer_stores_slot, writer_stores_write}
@@ -8,10 +8,7 @@ use Rattle.cal_queue.specs.RingMachine.{LeadsTo, StepsAreEvents}
 use Rattle.cal_queue.specs.RingState.{Bounds, Event, IsSchedule, RingState, reclaims, releases, unused_state}
 use Rattle.cal_queue.proofs.CompletionKeeps.{got_below, new_ring-fits}
 use Rattle.cal_queue.proofs.CompletionKeeps as keeps
-
-value_of : (o : Option ℕ) → IsSome o → (value : ℕ) × (o ≡ Some value)
-value_of (Some value) some = (value, refl)
-value_of None some = cc
+use Rattle.cal_queue.proofs.Schedules.{value_of}
 
 pub new_ring-unused : (capacity : ℕ) → 1 ≤ capacity → Represents capacity (new_ring capacity) unused_state
 new_ring-unused capacity some = record {

@@ -2,6 +2,7 @@ pub mod CompletionAllowed
 pub mod CompletionKeeps
 pub mod CompletionRuns
 pub mod LastValues
+pub mod ListIndexes
 pub mod LostTurns
 pub mod Members
 pub mod OneSideEach

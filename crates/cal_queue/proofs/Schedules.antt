@@ -1,5 +1,5 @@
 -- Schedules that go on by one event, and the positions with a tag where one more is sent or leaves the queue.
-use Rattle.std.proofs.Common.{◌≡◌, ℕ, suc, ◌+◌, ◌<◌, ◌≤◌, Bool, true, false, List, [], ◌∷◌, ◌++◌, length, get_or, if◌then◌else◌, refl, ap, ◌∙◌, sym, subst, arith}
+use Rattle.std.proofs.Common.{◌≡◌, ℕ, suc, ◌+◌, ◌<◌, ◌≤◌, Bool, true, false, List, [], ◌∷◌, ◌++◌, length, get_or, Option, Some, None, IsSome, if◌then◌else◌, refl, ap, ◌∙◌, sym, subst, arith}
 use Rattle.cal_queue.specs.RingState.{Tag, RingState, Bounds, Event, MayHappen, after_event, IsSchedule, IsReached, is_same_tag, tagged_positions}
 
 pub IsSchedule-more : (b : Bounds) (c d : RingState) (events : List Event) (e : Event) → IsSchedule b c events d → MayHappen b d e → IsSchedule b c (events ++ e ∷ []) (after_event d e)
@@ -8,6 +8,11 @@ IsSchedule-more b c d (x ∷ xs) e is may = (is.0, IsSchedule-more b (after_even
 
 pub IsReached-more : (b : Bounds) (c : RingState) (e : Event) → IsReached b c → MayHappen b c e → IsReached b (after_event c e)
 IsReached-more b c e reached may = (reached.0 ++ e ∷ [], IsSchedule-more b _ c reached.0 e reached.1 may)
+
+-- the value of an option that has one
+pub value_of : (o : Option ℕ) → IsSome o → (value : ℕ) × (o ≡ Some value)
+value_of (Some value) some = (value, refl)
+value_of None some = cc
 
 -- a value more that was sent has no tag yet
 pub tagged_positions-sent : (tag : Tag) (first : ℕ) (tags : List Tag) (values : List ℕ) (value : ℕ) → length tags ≤ length values

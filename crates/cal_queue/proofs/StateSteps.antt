@@ -18,6 +18,7 @@ use Rattle.cal_queue.specs.declared.state_table.pass.StateStep.{StateStep}
 use Rattle.cal_queue.specs.declared.state_table.pass.StatePass.{StatePass}
 use Rattle.cal_queue.specs.StateTable.{IsPortWord, Joins, LeavesOther, LeavesMark, MayChange, MayStep, IsRun, IsWitnessed, TakenStep, exchange_step, new_pass, has_bit, load_step, mark, opening_words, port_index, steps_of, steps_of_all, after_step, words_after, write_step}
 use Rattle.cal_queue.specs.StateLaw.{EveryOpening, EveryRun, EveryStep}
+use Rattle.cal_queue.proofs.ListIndexes.{at_snoc, at_within}
 use Rattle.cal_queue.specs.StateRule.{Exchanges, IsSoundTable, Knows, Loads}
 
 abbrev Changes : ℕ → ℕ → ℕ → Type 0
@@ -68,18 +69,6 @@ steps_of-else : (by other : ℕ) (taken : List TakenStep) (s : StateStep) → by
 steps_of-else by other [] s apart = ap (λ (b : Bool). cond b (s ∷ []) []) (ne_eqb by other apart)
 steps_of-else by other (t ∷ taken) s apart = ap (λ (ss : List StateStep). cond (eqb t.by other) (t.step ∷ ss) ss) (steps_of-else by other taken s apart)
 
-module _ {A : Type 0} where
-  at_within : (l : List A) (i : ℕ) (a : A) → get_elem? l i ≡ some a → i < length l
-  at_within [] i a e = absurd (some-ne-none a (sym e))
-  at_within (x ∷ xs) zero a e = omega arith
-  at_within (x ∷ xs) (suc i) a e = let r = at_within xs i a e in omega arith
-
-  at_end : (l : List A) (a b : A) (j : ℕ) → get_elem? (l ++ a ∷ []) j ≡ some b → (get_elem? l j ≡ some b) ⊎ ((j ≡ length l) × (a ≡ b))
-  at_end [] a b zero e = inr (refl, some-injective a b e)
-  at_end [] a b (suc j) e = absurd (some-ne-none b (sym e))
-  at_end (x ∷ xs) a b zero e = inl e
-  at_end (x ∷ xs) a b (suc j) e = ⊎_elim (λ t. inl t) (λ t. inr (ap suc t.0, t.1)) (at_end xs a b j e)
-
 new_pass-knows : (o : OpeningWords) (by : ℕ) (p : StatePass) → (get_elem? {A = StatePass} [] by ≡ some p) ⊎ ((by ≡ 0) × (new_pass o ≡ p)) → Knows o [] by p
 new_pass-knows o by p = ⊎_elim
     (λ no. absurd (some-ne-none p (sym no)))
@@ -112,7 +101,7 @@ pub every_opening : EveryOpening
 every_opening o small = record {
   taken = [];
   run = refl;
-  own = λ by p at. new_pass-knows o by p (at_end [] (new_pass o) p by at);
+  own = λ by p at. new_pass-knows o by p (at_snoc [] (new_pass o) p by at);
   others = λ by past. refl;
   port = inl small;
 }
@@ -181,7 +170,7 @@ module _ (o : OpeningWords) (words : List ℕ) (passes : List StatePass) (kept :
   Kept-split = record {
     taken = kept.taken;
     run = kept.run;
-    own = λ by q found. own-split by q (at_end (set passes id p) (new_pass p.opening) q by found);
+    own = λ by q found. own-split by q (at_snoc (set passes id p) (new_pass p.opening) q by found);
     others = λ by past.
         let same : length (set passes id p) ≡ length passes = length-set passes id p in
         kept.others by (omega (arith, length-append (set passes id p) (new_pass p.opening ∷ [])));

@@ -1,5 +1,5 @@
 -- Each step of a submission ring is an event of the state that it represents, or none.
-use Rattle.std.proofs.Common.{◌≡◌, ◌≢◌, ℕ, ◌+◌, ◌<◌, Bool, true, false, cond, List, [], ◌∷◌, ◌++◌, length, get_or, map, set, replicate, Option, Some, None, IsSome, eqb, ltb, refl, sym, ap, ◌∙◌, subst, arith, eq-eqb, eqb-true}
+use Rattle.std.proofs.Common.{◌≡◌, ◌≢◌, ℕ, ◌+◌, ◌<◌, Bool, true, false, cond, List, [], ◌∷◌, ◌++◌, length, get_or, map, set, replicate, Option, Some, None, eqb, ltb, refl, sym, ap, ◌∙◌, subst, arith, eq-eqb, eqb-true}
 use Rattle.std.proofs.lemmas.Bool.{false≢true}
 use Rattle.std.proofs.lemmas.List.{length-replicate, get_or-replicate}
 use Rattle.std.specs.Option.{option_to_list}
@@ -9,12 +9,9 @@ use Rattle.cal_queue.specs.RingWords.{slot_of}
 use Rattle.cal_queue.specs.SubmissionLaw.{MayStep, Represents, RingMoment, RingStep, after_step, events_of, is_ahead, new_ring, reader_exchanges_read, reader_loads_read, reader_loads_slot, reader_loads_write, submission_machine, writer_exchanges_read, writer_loads_read, writer_stores_slot, writer_stores_write}
 use Rattle.cal_queue.specs.SubmissionPass.{after_lost_exchange, after_miss, after_slot_look, after_take, after_won_exchange}
 use Rattle.cal_queue.specs.SubmissionRule.{Fits}
+use Rattle.cal_queue.proofs.Schedules.{value_of}
 use Rattle.cal_queue.proofs.SubmissionKeeps.{new_ring-fits, pending_room, due_full, taken_within}
 use Rattle.cal_queue.proofs.SubmissionKeeps as keeps
-
-value_of : (o : Option ℕ) → IsSome o → (value : ℕ) × (o ≡ Some value)
-value_of (Some value) some = (value, refl)
-value_of None some = cc
 
 pub new_ring-unused : (buffer : ℕ) → Represents buffer (new_ring buffer) unused_state
 new_ring-unused buffer = record {
