@@ -1,6 +1,6 @@
 //! Measures the rings: `cal_bench one COUNT` pushes and pops that many values of a submission ring on one thread,
-//! `cal_bench two COUNT` sends them from one thread to another with overflow, and `cal_bench completion COUNT` puts them into
-//! a completion ring and gets them out on one thread. Each prints the nanoseconds that it took.
+//! `cal_bench two COUNT` sends them from one thread to another with overflow, and `cal_bench completion COUNT` puts
+//! them into a completion ring and gets them out on one thread. Each prints the nanoseconds that it took.
 #![tactic(auto)]
 
 mod one_thread;

@@ -63,7 +63,8 @@ module _ (capacity : ℕ) (words : List ℕ) (writer : PutPass) (reader : GetPas
       reader_fits = Y;
     }
 
-    pub writer_stores_slot-fits : (value : ℕ) → length writer.put < writer.seen_read + capacity → length writer.put < 2 ^ 64 - 1
+    pub writer_stores_slot-fits : (value : ℕ) → length writer.put < writer.seen_read + capacity
+        → length writer.put < 2 ^ 64 - 1
         → Fits capacity (set words (slot_of capacity (length writer.put)) value) (after_slot_store value writer) reader
     writer_stores_slot-fits value has_room counts = let seen = X.read_within in
         let some = V.some_room in record {
@@ -118,7 +119,11 @@ module _ (capacity : ℕ) (words : List ℕ) (writer : PutPass) (reader : GetPas
 
     pub writer_stores_write-fits : Fits capacity published (after_write_store writer) reader
     writer_stores_write-fits = subst
-        (λ (o : Option ℕ). Fits capacity published (record writer { put = writer.put ++ option_to_list o; to_put = None }) reader)
+        (λ (o : Option ℕ). Fits capacity published (record writer {
+          put = writer.put
+              ++ option_to_list o;
+          to_put = None;
+        }) reader)
         (sym pending) published_fits
 
   -- ---- the getting end
@@ -202,5 +207,9 @@ module _ (capacity : ℕ) (words : List ℕ) (writer : PutPass) (reader : GetPas
 
     pub reader_stores_read-fits : Fits capacity passed writer (after_read_store reader)
     reader_stores_read-fits = subst
-        (λ (o : Option ℕ). Fits capacity passed writer (record reader { got = reader.got ++ option_to_list o; seen_value = None }))
+        (λ (o : Option ℕ). Fits capacity passed writer (record reader {
+          got = reader.got
+              ++ option_to_list o;
+          seen_value = None;
+        }))
         (sym loaded) passed_fits

@@ -67,23 +67,39 @@ module _ (b : Bounds) (m : RingMoment) (c : RingState) (shows : Represents b.com
   step_is_an_event writer_loads_read may = (
     c,
     refl,
-    record { released = shows.released; reclaimed = shows.reclaimed; fits = keeps.writer_loads_read-fits b.completion m.words m.writer m.reader F may },
+    record {
+      released = shows.released;
+      reclaimed = shows.reclaimed;
+      fits = keeps.writer_loads_read-fits b.completion m.words m.writer m.reader F may;
+    },
   )
   step_is_an_event (writer_stores_slot value) may = (
     c,
     refl,
-    record { released = shows.released; reclaimed = shows.reclaimed; fits = keeps.writer_stores_slot-fits b.completion m.words m.writer m.reader F may.0 value may.1 may.2 },
+    record {
+      released = shows.released;
+      reclaimed = shows.reclaimed;
+      fits = keeps.writer_stores_slot-fits b.completion m.words m.writer m.reader F may.0 value may.1 may.2;
+    },
   )
   step_is_an_event writer_stores_write may = let v = value_of m.writer.to_put may in releases-one v.0 v.1
   step_is_an_event reader_loads_write may = (
     c,
     refl,
-    record { released = shows.released; reclaimed = shows.reclaimed; fits = keeps.reader_loads_write-fits b.completion m.words m.writer m.reader F },
+    record {
+      released = shows.released;
+      reclaimed = shows.reclaimed;
+      fits = keeps.reader_loads_write-fits b.completion m.words m.writer m.reader F;
+    },
   )
   step_is_an_event reader_loads_slot may = (
     c,
     refl,
-    record { released = shows.released; reclaimed = shows.reclaimed; fits = keeps.reader_loads_slot-fits b.completion m.words m.writer m.reader F may },
+    record {
+      released = shows.released;
+      reclaimed = shows.reclaimed;
+      fits = keeps.reader_loads_slot-fits b.completion m.words m.writer m.reader F may;
+    },
   )
   step_is_an_event reader_stores_read may = let v = value_of m.reader.seen_value may in reclaims-one v.0 v.1
 

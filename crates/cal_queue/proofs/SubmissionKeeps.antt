@@ -80,7 +80,8 @@ module _ (buffer : ℕ) (words : List ℕ) (writer : SendPass) (reader : TakePas
       reader_fits = Y;
     }
 
-    pub writer_stores_slot-fits : (value : ℕ) → length writer.sent ≤ writer.seen_read + buffer → length writer.sent < 2 ^ 64 - 1
+    pub writer_stores_slot-fits : (value : ℕ) → length writer.sent ≤ writer.seen_read + buffer
+        → length writer.sent < 2 ^ 64 - 1
         → Fits buffer (set words (slot_of slots (length writer.sent)) value) (after_slot_store value writer) reader tags
     writer_stores_slot-fits value has_room counts = let seen = X.read_within in record {
       words_fit = WordsFit-slot slots words writer.sent (length tags) W value (omega arith) (omega arith);
@@ -171,7 +172,8 @@ module _ (buffer : ℕ) (words : List ℕ) (writer : SendPass) (reader : TakePas
       still_there : length tags ≡ writer.seen_read
       still_there = sym W.read_position ∙ hit
 
-      pub writer_wins-fits : Fits buffer (set words 0 (writer.seen_read + 1)) (after_won_exchange writer) reader (tags ++ overflowed ∷ [])
+      pub writer_wins-fits : Fits buffer (set words 0 (writer.seen_read + 1)) (after_won_exchange writer) reader (tags
+          ++ overflowed ∷ [])
       writer_wins-fits = let long = due_full in
           let there = still_there in
           let more : length (tags ++ overflowed ∷ []) ≡ length tags + 1 = length-append tags (overflowed ∷ []) in
@@ -185,7 +187,8 @@ module _ (buffer : ℕ) (words : List ℕ) (writer : SendPass) (reader : TakePas
               overflowed_tagged =
                   ap (λ (l : List (ℕ × ℕ)). l ++ (writer.seen_read, get_or writer.sent writer.seen_read 0) ∷ [])
                   X.overflowed_tagged
-                  ∙ ap (λ (k : ℕ × ℕ). tagged_positions overflowed 0 tags writer.sent ++ (k.0, get_or writer.sent k.1 0) ∷ [])
+                  ∙ ap (λ (k : ℕ × ℕ). tagged_positions overflowed 0 tags writer.sent
+                  ++ (k.0, get_or writer.sent k.1 0) ∷ [])
                   (λ i. (sym same i, sym there i)) ∙ sym back;
               read_within = omega arith;
               room = λ d. omega arith;
@@ -209,7 +212,8 @@ module _ (buffer : ℕ) (words : List ℕ) (writer : SendPass) (reader : TakePas
           }
 
     -- the taker has moved it on
-    pub writer_loses-fits : get_or words 0 0 ≢ writer.seen_read → Fits buffer words (after_lost_exchange writer) reader tags
+    pub writer_loses-fits : get_or words 0 0 ≢ writer.seen_read
+        → Fits buffer words (after_lost_exchange writer) reader tags
     writer_loses-fits miss = record {
       words_fit = W;
       writer_fits = record {
@@ -250,7 +254,8 @@ module _ (buffer : ℕ) (words : List ℕ) (writer : SendPass) (reader : TakePas
   reader_loads_write-fits = let shown = W.write_position in
       let within = W.read_within in
       let seen = Y.read_within in
-      let here : (write : ℕ) → Some (get_or words 1 0) ≡ Some write → write ≡ get_or words 1 0 = λ write is. cc in record {
+      let here : (write : ℕ) → Some (get_or words 1 0) ≡ Some write → write
+      ≡ get_or words 1 0 = λ write is. cc in record {
         words_fit = W;
         writer_fits = X;
         reader_fits = record {
@@ -298,7 +303,12 @@ module _ (buffer : ℕ) (words : List ℕ) (writer : SendPass) (reader : TakePas
       abbrev passed : List ℕ
       passed = set words 0 (reader.seen_read + 1)
 
-      passed_fits : Fits buffer passed writer (record reader { received = reader.received ++ (reader.seen_read, value) ∷ []; seen_write = None; seen_value = None }) (tags ++ received ∷ [])
+      passed_fits : Fits buffer passed writer (record reader {
+        received = reader.received
+            ++ (reader.seen_read, value) ∷ [];
+        seen_write = None;
+        seen_value = None;
+      }) (tags ++ received ∷ [])
       passed_fits = let there : length tags ≡ reader.seen_read = sym W.read_position ∙ hit in
           let within = taken_within in
           let more : length (tags ++ received ∷ []) ≡ length tags + 1 = length-append tags (received ∷ []) in
@@ -310,7 +320,8 @@ module _ (buffer : ℕ) (words : List ℕ) (writer : SendPass) (reader : TakePas
                 (reader.seen_read + 1) W more (omega arith) below;
             writer_fits = record {
               sized = X.sized;
-              overflowed_tagged = X.overflowed_tagged ∙ sym (append-nil (tagged_positions overflowed 0 tags writer.sent))
+              overflowed_tagged = X.overflowed_tagged
+                  ∙ sym (append-nil (tagged_positions overflowed 0 tags writer.sent))
                   ∙ sym (tagged_positions-tag overflowed 0 tags received writer.sent below);
               read_within = let h = X.read_within in omega arith;
               room = λ d. let h = X.room d in omega arith;
@@ -340,7 +351,12 @@ module _ (buffer : ℕ) (words : List ℕ) (writer : SendPass) (reader : TakePas
       pub reader_wins-fits : Fits buffer passed writer (after_take reader) (tags ++ received ∷ [])
       reader_wins-fits = subst
           (λ (o : Option ℕ). Fits buffer passed writer
-          (record reader { received = reader.received ++ map (λ (v : ℕ). (reader.seen_read, v)) (option_to_list o); seen_write = None; seen_value = None })
+          (record reader {
+            received = reader.received ++ map
+                (λ (v : ℕ). (reader.seen_read, v)) (option_to_list o);
+            seen_write = None;
+            seen_value = None;
+          })
           (tags ++ received ∷ []))
           (sym loaded) passed_fits
 

@@ -66,7 +66,8 @@ module _ (b : Bounds) (m : RingMoment) (c : RingState) (shows : Represents b.buf
       let away : get_or m.words 0 0 ≢ m.writer.seen_read = λ e. false≢true (sym is ∙ eq-eqb _ _ e) in
       unchanged _ refl (keeps.writer_loses-fits b.buffer m.words m.writer m.reader c.tags F due away)
 
-  takes : (value : ℕ) → m.reader.seen_value ≡ Some value → (hit : Bool) → eqb (get_or m.words 0 0) m.reader.seen_read ≡ hit
+  takes : (value : ℕ) → m.reader.seen_value ≡ Some value → (hit : Bool) → eqb (get_or m.words 0 0) m.reader.seen_read
+      ≡ hit
       → Leads (cond hit (receives ∷ []) [])
       (cond hit (record m { words = set m.words 0 (m.reader.seen_read + 1); reader = after_take m.reader })
       (record m { reader = after_miss m.reader }))

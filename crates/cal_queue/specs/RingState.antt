@@ -98,3 +98,10 @@ IsCompleted completion released reclaimed =
     (buffer : ℕ) (sent : List ℕ) (tags : List Tag)
     → IsReached (record { buffer = buffer; completion = completion }) (ring_state sent tags [] 0)
     → IsReached (record { buffer = buffer; completion = completion }) (ring_state sent tags released reclaimed)
+
+-- so one schedule of the channel leads to what both rings say
+pub IsReached-both : (b : Bounds) (sent : List ℕ) (tags : List Tag) (released : List ℕ) (reclaimed : ℕ)
+    → IsSubmitted b.buffer sent tags → IsCompleted b.completion released reclaimed
+    → IsReached b (ring_state sent tags released reclaimed)
+IsReached-both b sent tags released reclaimed submitted completed =
+    completed b.buffer sent tags (submitted b.completion)

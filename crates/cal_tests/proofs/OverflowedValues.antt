@@ -19,4 +19,5 @@ overflowed-more value None before after sent = ⊎_elim
     (λ loses. same-values before after (ap (λ (p : SendPass). p.overflowed) loses.1.steps))
     sent
 overflowed-more value (Some oldest) before after sent =
-    ap values_of sent.1.overflowed_last ∙ map-append (λ (entry : ℕ × ℕ). entry.1) before.overflowed ((sent.1.position, oldest) ∷ [])
+    ap values_of sent.1.overflowed_last ∙ map-append
+        (λ (entry : ℕ × ℕ). entry.1) before.overflowed ((sent.1.position, oldest) ∷ [])

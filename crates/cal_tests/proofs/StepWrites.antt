@@ -6,7 +6,8 @@ use Rattle.cal_queue.specs.declared.state_table.pass.StateStep.{StateStep}
 use Rattle.cal_queue.specs.StateTable.{after_step, channel_index, load_step, write_step}
 use Rattle.cal_tests.specs.Writes.{AddsOne, writes}
 
-pub writes-more : (steps : List StateStep) (s : StateStep) → writes (steps ++ s ∷ []) ≡ writes steps + (if is_some s.written then 1 else 0)
+pub writes-more : (steps : List StateStep) (s : StateStep) → writes (steps ++ s ∷ [])
+    ≡ writes steps + (if is_some s.written then 1 else 0)
 writes-more [] s = let n : ℕ = if is_some s.written then 1 else 0 in let e : n + 0 ≡ 0 + n = omega arith in e
 writes-more (x ∷ xs) s =
     let n : ℕ = if is_some s.written then 1 else 0 in
@@ -15,16 +16,21 @@ writes-more (x ∷ xs) s =
     let e : m + writes (xs ++ s ∷ []) ≡ (m + writes xs) + n = omega arith in e
 
 -- after a step that wrote nothing, and after one that wrote
-pub writes-looked : (before after : StatePass) (index seen n : ℕ) → after ≡ after_step before (load_step index seen) → writes before.steps ≡ n → writes after.steps ≡ n
+pub writes-looked : (before after : StatePass) (index seen n : ℕ) → after ≡ after_step before (load_step index seen)
+    → writes before.steps ≡ n → writes after.steps ≡ n
 writes-looked before after index seen n is count =
-    let more = ap (λ (p : StatePass). writes p.steps) is ∙ writes-more before.steps (load_step index seen) in omega arith
+    let more = ap (λ (p : StatePass). writes p.steps) is
+        ∙ writes-more before.steps (load_step index seen) in omega arith
 
-pub writes-wrote : (before after : StatePass) (index seen word n : ℕ) → after ≡ after_step before (write_step index seen word) → writes before.steps ≡ n → writes after.steps ≡ n + 1
+pub writes-wrote : (before after : StatePass) (index seen word n : ℕ) → after
+    ≡ after_step before (write_step index seen word) → writes before.steps ≡ n → writes after.steps ≡ n + 1
 writes-wrote before after index seen word n is count =
-    let more = ap (λ (p : StatePass). writes p.steps) is ∙ writes-more before.steps (write_step index seen word) in omega arith
+    let more = ap (λ (p : StatePass). writes p.steps) is
+        ∙ writes-more before.steps (write_step index seen word) in omega arith
 
 -- a step leaves the number of channels
-pub channels-kept : (before after : StatePass) (s : StateStep) → after ≡ after_step before s → 0 < before.opening.channels → 0 < after.opening.channels
+pub channels-kept : (before after : StatePass) (s : StateStep) → after ≡ after_step before s
+    → 0 < before.opening.channels → 0 < after.opening.channels
 channels-kept before after s is some = let same = ap (λ (p : StatePass). p.opening.channels) is in omega arith
 
 -- each step so far adds 1, and so does the next one
@@ -38,5 +44,6 @@ pub adds-looked : (before after : StatePass) (seen : ℕ) → All (AddsOne 0) be
 adds-looked before after seen adds is = adds-more before after _ adds is (record { index = refl; written = tt })
 
 pub adds-wrote : (before after : StatePass) (seen word : ℕ) → All (AddsOne 0) before.steps
-    → after ≡ after_step before (write_step (channel_index 0) seen word) → word ≡ (seen + 1) % 2 ^ 64 → All (AddsOne 0) after.steps
+    → after ≡ after_step before (write_step (channel_index 0) seen word) → word ≡ (seen + 1) % 2 ^ 64
+        → All (AddsOne 0) after.steps
 adds-wrote before after seen word adds is more = adds-more before after _ adds is (record { index = refl; written = more })

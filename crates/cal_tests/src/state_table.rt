@@ -12,11 +12,12 @@ use std::alloc::{AllocError, Global};
 use std::sync::Wait;
 use std::thread::{Threads, join};
 
-/// A side joins and leaves again. The answer is whether it left the mark, or why it did not join. Where it left none, it
-/// found the other side there, or its own bit taken by another seat.
+/// A side joins and leaves again. The answer is whether it left the mark, or why it did not join. Where it left none,
+/// it found the other side there, or its own bit taken by another seat.
 fn visit<R: Wait>(rt: &R, mut seat: StateSeat, bit: u8) -> (StateSeat, Result<bool, ReserveRefusal>)
     requires bit { IsPortBit bit }
-    ensures marked { IfOk result.1 (λ marked. OnTrue marked (EndsIn (pass result.0).steps (write_step port_index bit mark))) }
+    ensures marked { IfOk result.1
+        (λ marked. OnTrue marked (EndsIn (pass result.0).steps (write_step port_index bit mark))) }
     ensures unmarked { IfOk result.1 (λ marked. OnFalse marked
         (LeavesOtherBehind bit (pass result.0).steps ⊎ FindsBitGone bit (pass result.0).steps)) }
     ensures refused { IfErr result.1 (λ refusal. Refused bit refusal (pass seat) (pass result.0)) }
@@ -74,8 +75,8 @@ fn add_ones<R: Wait>(rt: &R, mut seat: StateSeat, times: u64) -> StateSeat
     seat
 }
 
-/// Two sides add to the word of one channel, each in a thread of its own. The answers are their seats, and the word that
-/// is left.
+/// Two sides add to the word of one channel, each in a thread of its own. The answers are their seats, and the word
+/// that is left.
 pub fn add_from_two_threads<R: Threads + Wait + Sync>(
     rt: &R,
     alloc: Global,

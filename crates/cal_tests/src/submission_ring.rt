@@ -68,8 +68,8 @@ fn take_some<R: Wait>(
 }
 
 /// One thread sends the numbers below `count`, and another takes what it can of them. The answers are the counts, the
-/// numbers that were taken, and those that came back to the sender. Either list rises, and what was sent was taken, came
-/// back, or is left in the ring.
+/// numbers that were taken, and those that came back to the sender. Either list rises, and what was sent was taken,
+/// came back, or is left in the ring.
 pub fn send_and_take<R: Threads + Wait + Sync>(
     rt: &R,
     alloc: Global,

@@ -9,6 +9,7 @@ impl GetSeat {
     ghost use Rattle.cal_queue.specs.CompletionPass.{after_slot_look, after_write_look, after_read_store};
     ghost use Rattle.cal_queue.specs.CompletionCalls.{IsPop, SameGetEnd, get_pass};
 
+    // Loads the write position.
     fn look(&mut self) -> u64
         ensures same_end { SameGetEnd self.old self.new }
         ensures one_load { get_pass self.new ≡ after_write_look result (get_pass self.old) }
@@ -31,7 +32,7 @@ impl GetSeat {
         value
     }
 
-    /// Gets the oldest value, if one waits.
+    /// Gets the oldest value, if a look shows that one waits.
     pub fn pop(&mut self) -> Option<u64>
         ensures same_end { SameGetEnd self.old self.new }
         ensures is_pop { IsPop result (get_pass self.old) (get_pass self.new) }

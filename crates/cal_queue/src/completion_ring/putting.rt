@@ -12,6 +12,7 @@ impl PutSeat {
     ghost use Rattle.cal_queue.specs.CompletionCalls.{IsPush, SamePutEnd, put_pass};
     ghost use Rattle.cal_queue.specs.declared.push_refusal.PushRefusal.TheVariants.{PositionsUsedUp};
 
+    // Loads the read position.
     fn look(&mut self) -> u64
         ensures same_end { SamePutEnd self.old self.new }
         ensures one_load { put_pass self.new ≡ after_read_load result (put_pass self.old) }
@@ -34,7 +35,8 @@ impl PutSeat {
         self.written += 1;
     }
 
-    /// Puts a value after all others. After a refusal the ring is as before.
+    /// Puts a value after all others. A ring that a look showed full is `Full`. Once 2^64 - 1 values were put the refusal
+    /// is `PositionsUsedUp`, without a look. Either refusal leaves the ring as it was.
     pub fn push(&mut self, value: u64) -> Result<(), PushRefusal>
         ensures same_end { SamePutEnd self.old self.new }
         ensures is_push { IsPush value result (put_pass self.old) (put_pass self.new) }

@@ -13,6 +13,7 @@ impl SendSeat {
     ghost use Rattle.cal_queue.specs.SubmissionCalls.{IsPush, LoadsOnce, SameLists, SameSendEnd, send_pass};
     ghost use Rattle.cal_queue.specs.declared.push_refusal.PushRefusal.TheVariants.{PositionsUsedUp};
 
+    // Loads the read position.
     fn look(&mut self) -> u64
         ensures same_end { SameSendEnd self.old self.new }
         ensures one_load { send_pass self.new ≡ after_read_load result (send_pass self.old) }
@@ -77,7 +78,8 @@ impl SendSeat {
     }
 
     /// Sends a value after all others. With `overflow` a full ring takes it too, and its oldest value overflows: it
-    /// comes back, unless it is received meanwhile. After a refusal the ring is as before.
+    /// comes back, unless it is received meanwhile. Without it a ring that a look showed full is `Full`. Once 2^64 - 1
+    /// values were sent the refusal is `PositionsUsedUp`, without a look. Either refusal leaves the ring as it was.
     pub fn push(&mut self, value: u64, overflow: bool) -> Result<Option<u64>, PushRefusal>
         ensures same_end { SameSendEnd self.old self.new }
         ensures is_push { IsPush overflow value result (send_pass self.old) (send_pass self.new) }

@@ -10,6 +10,7 @@ impl TakeSeat {
     ghost use Rattle.cal_queue.specs.SubmissionPass.{after_read_look, after_write_look, after_slot_look, after_take, after_miss};
     ghost use Rattle.cal_queue.specs.SubmissionCalls.{IsPop, LooksOnce, SameTakeEnd, take_pass};
 
+    // Loads the read position, and then the write position.
     fn look(&mut self) -> (u64, u64)
         ensures same_end { SameTakeEnd self.old self.new }
         ensures looked { take_pass self.new

@@ -16,7 +16,11 @@ invariant_of-self c =
     let here = self.indexed ∙ ap (λ (k : ℕ). k % (self.buffer + 1)) self.counted.0 in record {
       seated = c.append.ensures.seated ∙ self.seated;
       sized = self.sized;
-      sends = (ap (λ (m : End). m.0.writes) done ∙ self.sends.0, ap (λ (m : End). m.0.writer.buffer) done ∙ self.sends.1);
+      sends = (
+        ap (λ (m : End). m.0.writes) done ∙ self.sends.0,
+        ap (λ (m : End). m.0.writer.buffer) done
+            ∙ self.sends.1,
+      );
       nothing_due = ap (λ (m : End). m.0.writer.exchange_due) done ∙ ne_eqb _ _ not_full;
       nothing_to_send = ap (λ (m : End). m.0.writer.to_send) done;
       counted = (omega arith, self.counted.1 ∙ sym (ap (λ (m : End). length m.0.writer.overflowed) done));

@@ -12,5 +12,6 @@ loop-preserved g c =
     let look_end = c.look-read.ensures.same_end in record {
       same_end = (end.0 ∙ look_end.0 ∙ so_far.same_end.0, end.1 ∙ look_end.1 ∙ so_far.same_end.1);
       lost = LosesTurns-more _ _ _ _ _ _ so_far.lost looked lost;
-      none_received = ap (λ (p : TakePass). p.received) lost ∙ ap (λ (p : TakePass). p.received) looked ∙ so_far.none_received;
+      none_received = ap (λ (p : TakePass). p.received) lost ∙ ap (λ (p : TakePass). p.received) looked
+          ∙ so_far.none_received;
     }

@@ -13,7 +13,11 @@ invariant_of-self-2 c =
     let index = c.index_of-index.ensures ∙ ap (λ (k : ℕ). c.args.read % (k + 1)) self.takes.1 in record {
       seated = c.take.ensures.seated ∙ self.seated;
       sized = self.sized;
-      takes = (ap (λ (m : End). m.0.reads) taken ∙ self.takes.0, ap (λ (m : End). m.0.reader.buffer) taken ∙ self.takes.1);
+      takes = (
+        ap (λ (m : End). m.0.reads) taken ∙ self.takes.0,
+        ap (λ (m : End). m.0.reader.buffer) taken
+            ∙ self.takes.1,
+      );
       empty_handed = ap (λ (m : End). m.1) taken ∙ self.empty_handed;
       counted = omega arith;
       indexed = c.next_index-self.ensures.next c.args.read index;
