@@ -1,7 +1,8 @@
-//! Measures the submission ring: `cal_bench one COUNT` pushes and pops that many values on one thread, and
-//! `cal_bench two COUNT` sends them from one thread to another with overflow. `cal_bench pool COUNT`, `queue` and `used`
-//! measure the plain containers: a chunk got and freed, a value pushed and popped, a number put in and taken out. Each
-//! prints the nanoseconds that it took.
+//! Measures the rings: `cal_bench one COUNT` pushes and pops that many values of a submission ring on one thread,
+//! `cal_bench two COUNT` sends them from one thread to another with overflow, and `cal_bench completion COUNT` puts
+//! them into a completion ring and gets them out on one thread. `cal_bench pool COUNT`, `queue` and `used` measure the
+//! plain containers: a chunk got and freed, a value pushed and popped, a number put in and taken out. Each prints the
+//! nanoseconds that it took.
 #![tactic(auto)]
 
 mod one_thread;
@@ -10,17 +11,19 @@ mod two_threads;
 
 use crate::plain_calls::container_of;
 use anyhow::Result;
+use cal_queue::submission_ring::RingRest;
 use std::env;
 use std::rt::Env;
 use std::time::Instant;
 
-const USAGE: &str = "usage: cal_bench (one | two | pool | queue | used) COUNT";
+const USAGE: &str = "usage: cal_bench (one | two | completion | pool | queue | used) COUNT";
 
 /// Which measurement, and of how many values.
 #[derive(Clone, Copy)]
 enum Plan {
     OneThread(u64),
     TwoThreads(u64),
+    Completion(u64),
 }
 
 /// What the words of the command line ask for; the count is at least 1.
@@ -33,6 +36,7 @@ fn plan_of(words: &[String]) -> Option<Plan> {
         _ if count == 0 => None,
         "one" => Some(Plan::OneThread(count)),
         "two" => Some(Plan::TwoThreads(count)),
+        "completion" => Some(Plan::Completion(count)),
         _ => None,
     }
 }
@@ -61,6 +65,16 @@ fn main(rt: HostRuntime) -> Result<()> {
     let (count, rest) = match plan {
         Plan::OneThread(count) => (count, one_thread::push_and_pop(&rt, rt.alloc(), count)?),
         Plan::TwoThreads(count) => (count, two_threads::send_and_take(&rt, rt.alloc(), count)?),
+        Plan::Completion(count) => {
+            let all = one_thread::put_and_get(rt.alloc(), count)?;
+            let rest = RingRest {
+                sent: all.put,
+                received: all.got,
+                returned: 0,
+                left: all.left,
+            };
+            (count, rest)
+        }
     };
     let nanoseconds = start.elapsed(&rt)?.as_nanos();
     println!(rt;

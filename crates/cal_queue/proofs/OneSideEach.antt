@@ -8,23 +8,11 @@ use lib.ListN.{get_elem?}
 use Rattle.atomic_table.specs.Table.{State}
 use Rattle.atomic_table.proofs.Lists.{at_set, set_here, set_else, at_longer, at_last}
 use Rattle.cal_queue.specs.declared.sided.Sided.{Sided}
-use Rattle.cal_queue.specs.Sides.{HasTwoSides, both_sides, joined}
-
--- what is at a place is within the list
-at_within : {A : Type 0} (l : List A) (j : ℕ) (a : A) → get_elem? l j ≡ some a → j < length l
-at_within [] j a e = absurd (some-ne-none a (sym e))
-at_within (x ∷ xs) zero a e = omega arith
-at_within (x ∷ xs) (suc j) a e = let h = at_within xs j a e in omega arith
-
--- a place of a list with one more is an old place, or the last
-at_snoc_place : {A : Type 0} (l : List A) (a b : A) (j : ℕ) → get_elem? (l ++ a ∷ []) j ≡ some b → (get_elem? l j ≡ some b) ⊎ ((j ≡ length l) × (a ≡ b))
-at_snoc_place [] a b zero e = inr (refl, some-injective a b e)
-at_snoc_place [] a b (suc j) e = absurd (some-ne-none b (sym e))
-at_snoc_place (x ∷ xs) a b zero e = inl e
-at_snoc_place (x ∷ xs) a b (suc j) e = ⊎_elim (λ h. inl h) (λ h. inr (ap suc h.0, h.1)) (at_snoc_place xs a b j e)
+use Rattle.cal_queue.specs.Sides.{HasTwoSides, both_sides, joined_sides}
+use Rattle.cal_queue.proofs.ListIndexes.{at_snoc, at_within}
 
 module _ {V : Type 0} (flag : V → Bool) where
-  -- some view with this flag is at a place
+  -- some view with this flag is at an index
   abbrev Held : List V → ℕ → Type 0
   Held views j = (u : V) × (get_elem? views j ≡ some u) × (flag u ≡ true)
 
@@ -132,19 +120,19 @@ module _ {S P Q : Type 0} (Sound : List ℕ → P → Q → Type 0) where
           sound = both_meet s h seat v at writes reads;
           only_writer = λ j u e t. ⊎_elim
               (λ k. ⊎_elim (λ i. (i.0, sym (ap (λ (z : Sided P Q). z.writer) i.1))) (λ i. absurd (i.0 ((h.only_writer j u i.1 t).0 ∙ sym mine.0))) (at_set s.views seat j left_view u k))
-              (λ k. absurd (false≢true (ap (λ (z : Sided P Q). z.writes) k.1 ∙ t))) (at_snoc_place kept right_view u j e);
+              (λ k. absurd (false≢true (ap (λ (z : Sided P Q). z.writes) k.1 ∙ t))) (at_snoc kept right_view u j e);
           only_reader = λ j u e t. ⊎_elim
               (λ k. ⊎_elim (λ i. absurd (false≢true (ap (λ (z : Sided P Q). z.reads) i.1 ∙ t))) (λ i. absurd (i.0 ((h.only_reader j u i.1 t).0 ∙ sym his.0))) (at_set s.views seat j left_view u k))
-              (λ k. (k.0, sym (ap (λ (z : Sided P Q). z.reader) k.1))) (at_snoc_place kept right_view u j e);
+              (λ k. (k.0, sym (ap (λ (z : Sided P Q). z.reader) k.1))) (at_snoc kept right_view u j e);
           one_writer = (left_view, at_longer kept (right_view ∷ []) seat left_view (set_here s.views seat left_view (at_within s.views seat v at)), writes);
           one_reader = (right_view, at_last kept right_view (length kept) refl, reads);
         }
 
   module _ (s : State S (Sided P Q)) (h : HasTwoSides Sound s) (seat other : ℕ) (v w gone : Sided P Q) (at : get_elem? s.views seat ≡ some v) (writes : v.writes ≡ true)
-      (apart : ¬ (other ≡ seat)) (there : get_elem? (set s.views seat (joined v w)) other ≡ some w) (reads : w.reads ≡ true) (no_writes : gone.writes ≡ false) (no_reads : gone.reads ≡ false) where
+      (apart : ¬ (other ≡ seat)) (there : get_elem? (set s.views seat (joined_sides v w)) other ≡ some w) (reads : w.reads ≡ true) (no_writes : gone.writes ≡ false) (no_reads : gone.reads ≡ false) where
     -- the seat of the writing side takes the reading side in, and the other seat's view is spent
-    pub joins : HasTwoSides Sound (record { words = s.words; homes = s.homes; views = set (set s.views seat (joined v w)) other gone })
-    joins = let both = joined v w in
+    pub joins : HasTwoSides Sound (record { words = s.words; homes = s.homes; views = set (set s.views seat (joined_sides v w)) other gone })
+    joins = let both = joined_sides v w in
         let half = set s.views seat both in
         let at_other = sym (set_else s.views seat other both apart) ∙ there in
         let mine = h.only_writer seat v at writes in

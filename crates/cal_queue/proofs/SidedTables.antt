@@ -4,7 +4,7 @@ use Rattle.std.proofs.Common.{◌≡◌, ℕ, ◌<◌, true, false, List, get_or
 use Rattle.std.proofs.lemmas.List.{set-get_or}
 use Rattle.atomic_table.specs.Table.{Me, keeps, Allows, Splits, Joins}
 use Rattle.cal_queue.specs.declared.sided.Sided.{Sided}
-use Rattle.cal_queue.specs.Sides.{HasTwoSides, joined}
+use Rattle.cal_queue.specs.Sides.{HasTwoSides, joined_sides}
 use Rattle.cal_queue.proofs.OneSideEach.{writer_meets, reader_meets, both_meet, writer_steps, reader_steps, parts, joins}
 
 module _ {S P Q : Type 0} (Sound : List ℕ → P → Q → Type 0) (slots seat : ℕ) (me : Me S (Sided P Q)) (i : ℕ) (f : ℕ → ℕ) (then : ℕ → Me S (Sided P Q) → Type 0) where
@@ -61,5 +61,5 @@ module _ {S P Q : Type 0} (Sound : List ℕ → P → Q → Type 0) (seat : ℕ)
   sides_split reads s h at = parts Sound s h seat v at writes reads
 
   -- and come together
-  pub sides_join : (other : ℕ) (w gone : Sided P Q) → w.reads ≡ true → gone.writes ≡ false → gone.reads ≡ false → Joins {S = S} (HasTwoSides Sound) seat v other w (joined v w) gone
+  pub sides_join : (other : ℕ) (w gone : Sided P Q) → w.reads ≡ true → gone.writes ≡ false → gone.reads ≡ false → Joins {S = S} (HasTwoSides Sound) seat v other w (joined_sides v w) gone
   sides_join other w gone reads no_writes no_reads s h at apart there = joins Sound s h seat other v w gone at writes apart there reads no_writes no_reads
