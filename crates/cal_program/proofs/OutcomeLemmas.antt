@@ -136,9 +136,9 @@ read-right words before now sink_before sink_now xs status replies tells asks h 
 
 due-right : (words : List (List ℕ)) (before now : SourceState) (sink_before sink_now : SinkState) (xs : List ℕ) (status : Status) (replies : List Reply) → before.left ≡ Some xs → IsDue words before now status replies → IsRight words xs before now sink_before sink_now status
 due-right words before now sink_before sink_now xs Usage replies tells h = inl (sym (due_status-usage words xs h.0))
-due-right words before now sink_before sink_now xs ReadFault replies tells h = inr (h.0, h.2)
+due-right words before now sink_before sink_now xs ReadFault replies tells h = inr (h.0, h.1.fault)
 due-right words before now sink_before sink_now xs TooLong replies tells h =
-    inl (sym (due_status-long words xs h.0 (omega (arith, h.1.2, front-told before.left now.left xs h.1.0 tells h.1.1.front))))
+    inl (sym (due_status-long words xs h.0 (omega (arith, h.1.past, front-told before.left now.left xs h.1.bytes tells h.1.taken.front))))
 due-right words before now sink_before sink_now xs NoMemory [] tells h = inr h.0
 due-right words before now sink_before sink_now xs NoMemory (reply ∷ replies) tells h = inr h.0
 due-right words before now sink_before sink_now xs Done replies tells h =

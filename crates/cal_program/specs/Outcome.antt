@@ -14,7 +14,7 @@ use Rattle.cal_program.specs.declared.status.Status.TheVariants.{Done, BadScript
 use Rattle.cal_program.specs.Script.{Reading, script_of}
 use Rattle.cal_program.specs.ReplyText.{line, reply_lines}
 use Rattle.cal_program.specs.Streams.{SourceState, SinkState, Rose, PutsAll, FailsWithin}
-use Rattle.cal_program.specs.ReadAll.{script_limit, ReadsAll, ReadsSome, ReadsTooMany}
+use Rattle.cal_program.specs.ReadAll.{script_limit, ReadsAll, ReadsSome, ReadsTooMany, FailsReading}
 
 -- ---- words
 
@@ -104,7 +104,7 @@ IsVerdict bytes status replies = (script : Reading) × (script_of bytes ≡ Ok s
 abbrev pub IsDue : List (List ℕ) → SourceState → SourceState → Status → List Reply → Type 0
 IsDue words before now Usage replies = (asks_for_run words ≡ false) × (now ≡ before) × (replies ≡ [])
 IsDue words before now ReadFault replies =
-    IsTrue (asks_for_run words) × ReadsSome before now × Rose before.faults now.faults × (replies ≡ [])
+    IsTrue (asks_for_run words) × FailsReading before now × (replies ≡ [])
 IsDue words before now TooLong replies = IsTrue (asks_for_run words) × ReadsTooMany before now × (replies ≡ [])
 IsDue words before now NoMemory [] = IsTrue (asks_for_run words) × ReadsSome before now
 IsDue words before now status replies =

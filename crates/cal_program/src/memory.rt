@@ -2,7 +2,7 @@
 
 ghost use Rattle.std.specs.Prelude.{◌≡◌, ◌<◌, ◌≤◌, ◌↔◌, [], length, take, Contains, Some, IfOk, IsErr, OnOk, OnErr};
 ghost use Rattle.std.specs.Io.KnownBytes.{IsAtEnd};
-ghost use Rattle.cal_program.specs.Streams.{Takes, TakesNothing, Puts, PutsFront, new_source, new_sink};
+ghost use Rattle.cal_program.specs.Streams.{Takes, TakesNothing, Puts, PutsFront, new_source, new_sink, one_more_call};
 
 use crate::clean::fill_front;
 use crate::sink::Sink;
@@ -60,6 +60,8 @@ impl<'a> Source for MemorySource<'a> {
         ensures end { IfOk result (λ count. count ≡ 0 → IsAtEnd self.new.state.left) }
         ensures failed { OnErr result (TakesNothing self.old.state self.new.state) }
         ensures fails { IsErr result ↔ Contains self.old.failing self.old.calls }
+        ensures calls { self.new.calls ≡ one_more_call self.old.calls }
+        ensures failing { self.new.failing ≡ self.old.failing }
     {
         let fails = self.failing.contains(&self.calls);
         self.calls = self.calls.saturating_add(1);
@@ -123,6 +125,8 @@ impl<'a> Sink for MemorySink<'a> {
         ensures put { OnOk result (Puts self.old.state self.new.state bytes.now) }
         ensures failed { OnErr result (PutsFront self.old.state self.new.state bytes.now) }
         ensures fails { Contains self.old.failing self.old.calls → IsErr result }
+        ensures calls { self.new.calls ≡ one_more_call self.old.calls }
+        ensures failing { self.new.failing ≡ self.old.failing }
     {
         let fails = self.failing.contains(&self.calls);
         self.calls = self.calls.saturating_add(1);

@@ -29,7 +29,7 @@ pub fn print_outcome<S: Sink>(outcome: &Outcome, sink: &mut S) -> Result<(), Fai
     Ok(())
 }
 
-fn print_status<S: Sink>(page: &mut Page, sink: &mut S, status: Status, replies: &Replies)
+fn print_status<S: Sink>(page: &mut Page, sink: &mut S, status: Status, replies: &Replies<Reply>)
     ensures { Follows page.old (S.state sink.old) page.new (S.state sink.new) (status_text status replies.now.items) }
 {
     match status {
@@ -54,7 +54,7 @@ fn print_status<S: Sink>(page: &mut Page, sink: &mut S, status: Status, replies:
     }
 }
 
-fn print_replies<S: Sink>(page: &mut Page, sink: &mut S, replies: &Replies)
+fn print_replies<S: Sink>(page: &mut Page, sink: &mut S, replies: &Replies<Reply>)
     ensures { Follows page.old (S.state sink.old) page.new (S.state sink.new) (reply_lines replies.now.items) }
 {
     for place in 0..replies.len() {

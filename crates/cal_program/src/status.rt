@@ -3,7 +3,7 @@
 ghost use Rattle.std.specs.Prelude.{◌≡◌};
 ghost use Rattle.cal_program.specs.Outcome.{status_code};
 
-use cal_transport::{CreateCause, Replies};
+use cal_transport::{CreateCause, Replies, Reply};
 
 /// How a run of the program ended.
 #[derive(Clone, Copy, Debug, PartialEq, Eq)]
@@ -53,5 +53,5 @@ pub struct Outcome {
     pub status: Status,
     /// The replies of the whole run, where that is done or its replies were due to be written; the replies before memory
     /// ran out; else none.
-    pub replies: Replies,
+    pub replies: Replies<Reply>,
 }

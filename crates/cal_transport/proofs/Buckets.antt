@@ -11,8 +11,9 @@ use Rattle.cal_alloc.specs.SizeAndAlignment.{SizeAndAlignment}
 use Rattle.cal_alloc.specs.declared.shm_allocator.ShmAllocationError.{ShmAllocationError}
 use Rattle.cal_alloc.specs.declared.shm_allocator.ShmAllocationError.TheVariants as error
 use Rattle.cal_transport.specs.declared.reply.Refusal.TheVariants.{ExceedsMaxSupportedAlignment, SizeTooLarge, OutOfMemory}
-use Rattle.cal_transport.specs.Ledger.{Chunk, is_live, is_free, has_free_bucket, numbers_below, is_in_transit}
-use Rattle.cal_transport.specs.Cause.{static_cause, serves, is_full}
+use Rattle.cal_transport.specs.Ledger.{Chunk, is_live, is_free, numbers_below, is_in_transit}
+use Rattle.cal_transport.specs.LoanCause.{static_cause, serves}
+use Rattle.cal_transport.specs.Cause.{is_full, current_segment}
 use Rattle.cal_transport.specs.Parts.{Parts, Shown, Show, ledger_of, lives}
 use Rattle.cal_transport.specs.Rules.{refusal_of, IsPools}
 
@@ -108,7 +109,7 @@ full_is p w h = go (pool.is_full p.pool) refl
 -- ---- the refusals of a static memory
 
 pub static_cause_is : (p : Parts) (w : Shown) (layout : SizeAndAlignment) → Show p w →
-    static_cause (ledger_of p w) layout.size layout.alignment ≡ option_map refusal_of (pool_refusal p.pool layout)
+    static_cause (current_segment (ledger_of p w)) layout.size layout.alignment ≡ option_map refusal_of (pool_refusal p.pool layout)
 static_cause_is p w layout h =
     ap (λ b. cond (nat_lt p.pool.buckets.alignment layout.alignment) (Some ExceedsMaxSupportedAlignment)
     (cond (nat_lt p.pool.buckets.size layout.size) (Some SizeTooLarge) (cond b (Some OutOfMemory) None))) (full_is p w h)
@@ -149,16 +150,16 @@ serves_layout p layout q = go (nat_lt p.buckets.alignment layout.alignment) (nat
 
 -- the current segment then serves the loan, so that none is made
 pub serves_is : (p : Parts) (w : Shown) (layout : SizeAndAlignment) → Show p w → ServesLayout p.pool layout →
-    serves (ledger_of p w) layout.size layout.alignment ≡ true
+    serves (current_segment (ledger_of p w)) layout.size layout.alignment ≡ true
 serves_is p w layout h s =
-    let full : not (has_free_bucket (ledger_of p w) 0) ≡ false = full_is p w h ∙ s.room in
+    let room : is_full (ledger_of p w) ≡ false = full_is p w h ∙ s.room in
     let a = s.alignment in let b = s.size in
     let c : nat_le layout.size p.pool.buckets.size ≡ true = grind (arith, nat_tests) in
     let d : nat_le layout.alignment p.pool.buckets.alignment ≡ true = grind (arith, nat_tests) in
-    go (has_free_bucket (ledger_of p w) 0) (nat_le layout.size p.pool.buckets.size) (nat_le layout.alignment p.pool.buckets.alignment) full c d
+    go (is_full (ledger_of p w)) (nat_le layout.size p.pool.buckets.size) (nat_le layout.alignment p.pool.buckets.alignment) room c d
   where
-    go : (a b c : Bool) → not a ≡ false → b ≡ true → c ≡ true → (a && (b && c)) ≡ true
-    go true true true x y z = refl
-    go false b c x y z = absurd (true≢false x)
-    go true false c x y z = absurd (true≢false (sym y))
-    go true true false x y z = absurd (true≢false (sym z))
+    go : (a b c : Bool) → a ≡ false → b ≡ true → c ≡ true → (not a && (b && c)) ≡ true
+    go false true true x y z = refl
+    go true b c x y z = absurd (true≢false x)
+    go false false c x y z = absurd (true≢false (sym y))
+    go false true false x y z = absurd (true≢false (sym z))

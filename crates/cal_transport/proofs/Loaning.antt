@@ -19,7 +19,8 @@ use Rattle.cal_transport.specs.declared.reply.Reply.TheVariants.{Loaned, Refused
 use Rattle.cal_transport.specs.declared.reply.Refusal.{Refusal}
 use Rattle.cal_transport.specs.declared.reply.Refusal.TheVariants.{BadLayout}
 use Rattle.cal_transport.specs.Ledger.{Chunk, Channel, is_free, queued, completed, is_borrowed, occurrences}
-use Rattle.cal_transport.specs.Cause.{loan_cause, is_static, static_cause, growth_cause, next_segment, serves}
+use Rattle.cal_transport.specs.LoanCause.{loan_cause, is_static, static_cause, growth_cause, next_segment, serves}
+use Rattle.cal_transport.specs.Cause.{current_segment}
 use Rattle.cal_transport.specs.Step.{overwritten, new_chunk, grown, loaned_at, IsLoan, is_free_place}
 use Rattle.cal_transport.specs.Entry.{AreRising, AreBelow}
 use Rattle.cal_transport.specs.Parts.{Parts, Shown, Show, Does, IsOrderly, IsPlaced, IsKnown, IsOccupied, HasBucket, ledger_of, entry_of, lives, weight, pointer_to, bucket_named, bytes_at}
@@ -38,16 +39,16 @@ use Rattle.cal_transport.proofs.Buckets.{free_is, static_cause_is, serves_is, se
 pub loan_bad : (p : Parts) (name size alignment : ℕ) → is_power_of_two alignment ≡ false →
     Does p name (command.Loan size alignment) (Refused BadLayout) p
 loan_bad p name size alignment bad = refused p name (command.Loan size alignment) BadLayout (λ w h.
-    ap (λ b. cond (not b) (Some BadLayout) (cond (is_static p.settings.strategy) (static_cause (ledger_of p w) size alignment)
-    (cond (serves (ledger_of p w) size alignment) None (growth_cause (ledger_of p w) (next_segment (ledger_of p w) size alignment))))) bad)
+    ap (λ b. cond (not b) (Some BadLayout) (cond (is_static p.settings.strategy) (static_cause (current_segment (ledger_of p w)) size alignment)
+    (cond (serves (current_segment (ledger_of p w)) size alignment) None (growth_cause (current_segment (ledger_of p w)) (next_segment (current_segment (ledger_of p w)) size alignment))))) bad)
 
 loan_cause_is : (p : Parts) (w : Shown) (layout : SizeAndAlignment) → Show p w → is_power_of_two layout.alignment ≡ true →
-    loan_cause (ledger_of p w) layout.size layout.alignment ≡ option_map refusal_of (pool_refusal p.pool layout)
+    loan_cause (current_segment (ledger_of p w)) layout.size layout.alignment ≡ option_map refusal_of (pool_refusal p.pool layout)
 loan_cause_is p w layout h good =
-    ap (λ b. cond (not b) (Some BadLayout) (cond (is_static p.settings.strategy) (static_cause (ledger_of p w) layout.size layout.alignment)
-    (cond (serves (ledger_of p w) layout.size layout.alignment) None (growth_cause (ledger_of p w) (next_segment (ledger_of p w) layout.size layout.alignment))))) good
-    ∙ ap (λ b. cond b (static_cause (ledger_of p w) layout.size layout.alignment)
-    (cond (serves (ledger_of p w) layout.size layout.alignment) None (growth_cause (ledger_of p w) (next_segment (ledger_of p w) layout.size layout.alignment)))) h.settings.static
+    ap (λ b. cond (not b) (Some BadLayout) (cond (is_static p.settings.strategy) (static_cause (current_segment (ledger_of p w)) layout.size layout.alignment)
+    (cond (serves (current_segment (ledger_of p w)) layout.size layout.alignment) None (growth_cause (current_segment (ledger_of p w)) (next_segment (current_segment (ledger_of p w)) layout.size layout.alignment))))) good
+    ∙ ap (λ b. cond b (static_cause (current_segment (ledger_of p w)) layout.size layout.alignment)
+    (cond (serves (current_segment (ledger_of p w)) layout.size layout.alignment) None (growth_cause (current_segment (ledger_of p w)) (next_segment (current_segment (ledger_of p w)) layout.size layout.alignment)))) h.settings.static
     ∙ static_cause_is p w layout h
 
 pub loan_refused : (p : Parts) (name : ℕ) (layout : SizeAndAlignment) (refusal : Refusal) → is_power_of_two layout.alignment ≡ true →
@@ -289,7 +290,7 @@ loaned p name layout bucket place room below good served exists free e =
     let g : Gives p w name bucket = record { show = h; below = below; exists = exists; free = free } in
     let serves_it = serves_is p w layout h (serves_layout p.pool layout served) in
     let stays : grown (ledger_of p w) layout.size layout.alignment ≡ ledger_of p w =
-    ap (λ b. cond b (ledger_of p w) (record (ledger_of p w) { segments = (p.pool.buckets ∷ []) ++ next_segment (ledger_of p w) layout.size layout.alignment ∷ [] })) serves_it in
+    ap (λ b. cond b (ledger_of p w) (record (ledger_of p w) { segments = (p.pool.buckets ∷ []) ++ next_segment (current_segment (ledger_of p w)) layout.size layout.alignment ∷ [] })) serves_it in
     let at : bucket * p.pool.buckets.size / p.pool.buckets.size ≡ bucket = mul-div_cancel bucket h.ready.size in
     let is_start : is_free_place (ledger_of p w) (bucket * p.pool.buckets.size) ≡ true =
     and_true (nat_eq (bucket * p.pool.buckets.size % p.pool.buckets.size) 0) (nat_lt (bucket * p.pool.buckets.size / p.pool.buckets.size) p.pool.buckets.count)

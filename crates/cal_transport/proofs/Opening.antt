@@ -20,7 +20,7 @@ use Rattle.cal_transport.specs.declared.settings.Settings.{Settings}
 use Rattle.cal_transport.specs.declared.settings.CreateCause.TheVariants.{BadLayout, SizeOutOfRange, SizeIsZero, InternalError}
 use Rattle.cal_transport.specs.Settings.{clamped, first_buckets, payload, completion_size, is_too_large, has_too_large_connection, create_cause, CanMake}
 use Rattle.cal_transport.specs.Built.{is_built}
-use Rattle.cal_transport.specs.Cause.{is_static}
+use Rattle.cal_transport.specs.LoanCause.{is_static}
 use Rattle.cal_transport.specs.Ledger.{first_ledger, new_channel}
 use Rattle.cal_transport.specs.Parts.{Parts, Shown, Show, StandsFor, AreBuilt, ledger_of, first_pool}
 

@@ -12,7 +12,8 @@ use Rattle.cal_transport.specs.declared.settings.Settings.{Settings}
 use Rattle.cal_transport.specs.declared.entry.Entry.{Entry}
 use Rattle.cal_transport.specs.Settings.{clamped}
 use Rattle.cal_transport.specs.Ledger.{Ledger, Chunk, first_ledger, chunk_named}
-use Rattle.cal_transport.specs.Cause.{cause, serves, next_segment}
+use Rattle.cal_transport.specs.LoanCause.{serves, next_segment}
+use Rattle.cal_transport.specs.Cause.{cause, current_segment}
 use Rattle.cal_transport.specs.Step.{Answers, AnswersBy, after, after_by, changed, changed_chunk, after_loan, grown, shown_bytes}
 use Rattle.std.specs.Bool.{MatchBool}
 use Rattle.cal_transport.specs.Replies.{ReplyList}
@@ -28,9 +29,9 @@ use Rattle.cal_transport.proofs.Lists.{old_or_new}
 -- ---- settings stay
 
 grown_settings : (l : Ledger) (size alignment : ℕ) → (grown l size alignment).settings ≡ l.settings
-grown_settings l size alignment = go (serves l size alignment)
+grown_settings l size alignment = go (serves (current_segment l) size alignment)
   where
-    go : (b : Bool) → (cond b l (record l { segments = l.segments ++ next_segment l size alignment ∷ [] })).settings ≡ l.settings
+    go : (b : Bool) → (cond b l (record l { segments = l.segments ++ next_segment (current_segment l) size alignment ∷ [] })).settings ≡ l.settings
     go true = refl
     go false = refl
 
@@ -96,9 +97,9 @@ change_below change name n (x ∷ chunks) keeps below (suc i) chunk e =
     change_below change name n chunks keeps (λ j y f. below (suc j) y f) i chunk e
 
 grown_chunks : (l : Ledger) (size alignment : ℕ) → (grown l size alignment).chunks ≡ l.chunks
-grown_chunks l size alignment = go (serves l size alignment)
+grown_chunks l size alignment = go (serves (current_segment l) size alignment)
   where
-    go : (b : Bool) → (cond b l (record l { segments = l.segments ++ next_segment l size alignment ∷ [] })).chunks ≡ l.chunks
+    go : (b : Bool) → (cond b l (record l { segments = l.segments ++ next_segment (current_segment l) size alignment ∷ [] })).chunks ≡ l.chunks
     go true = refl
     go false = refl
 
@@ -234,7 +235,7 @@ read_ran_out p channel name at len bytes does some l s = go (cause l (command.Re
 -- ---- the loop
 
 -- the replies so far are steps, the transport stands for the ledger after them, and there is room for what is left
-pub record IsRunning (settings : Settings) (commands : List Command) (p : Parts) (replies : ReplyList) (index room : ℕ) : Type 0 where
+pub record IsRunning (settings : Settings) (commands : List Command) (p : Parts) (replies : ReplyList Reply) (index room : ℕ) : Type 0 where
   pub steps : AreSteps (first_ledger settings) 1 commands replies.items
   pub stands : StandsFor p (after_steps (first_ledger settings) 1 commands replies.items)
   pub turns : length replies.items ≡ index
@@ -243,7 +244,7 @@ pub record IsRunning (settings : Settings) (commands : List Command) (p : Parts)
   pub no_count : (i : ℕ) → i < index → slice_get commands i ≢ Some command.Count
 
 -- the names so far are below the next place
-pub running_below : (settings : Settings) (commands : List Command) (p : Parts) (replies : ReplyList) (index room : ℕ) →
+pub running_below : (settings : Settings) (commands : List Command) (p : Parts) (replies : ReplyList Reply) (index room : ℕ) →
     IsRunning settings commands p replies index room → AreBelow p.entries (index + 1)
 running_below settings commands p replies index room r =
     let below = steps_below (first_ledger settings) 1 commands replies.items (first_below settings) in
@@ -251,7 +252,7 @@ running_below settings commands p replies index room r =
     (entries_below p (after_steps (first_ledger settings) 1 commands replies.items) (1 + length replies.items) r.stands below)
 
 -- one more answer
-pub runs_on : (settings : Settings) (commands : List Command) (old new : Parts) (before after' : ReplyList) (index room : ℕ) (asked : Command) (reply : Reply) →
+pub runs_on : (settings : Settings) (commands : List Command) (old new : Parts) (before after' : ReplyList Reply) (index room : ℕ) (asked : Command) (reply : Reply) →
     IsRunning settings commands old before index room → slice_get commands index ≡ Some asked → Does old (index + 1) asked reply new →
     old.room ≤ new.room + 1 → after'.items ≡ before.items ++ reply ∷ [] → after'.spare ≡ before.spare - 1 → 0 < before.spare →
     asked ≢ command.Count → IsRunning settings commands new after' (index + 1) room
@@ -284,7 +285,7 @@ most_is settings commands replies p s =
     ap (λ b. min b.count p.settings.samples) s.show.ready.first ∙ ap (λ x. min x.count x.samples) same
 
 -- a run that went through
-pub ran : (settings : Settings) (commands : List Command) (p : Parts) (replies : ReplyList) (all : List Reply) (index room : ℕ) →
+pub ran : (settings : Settings) (commands : List Command) (p : Parts) (replies : ReplyList Reply) (all : List Reply) (index room : ℕ) →
     IsRunning settings commands p replies index room → index ≡ length commands →
     ((l : Ledger) → StandsFor p l → all ≡ replies.items ++ transit_list l) → IsRun settings commands all
 ran settings commands p replies all index room r whole listed =
@@ -293,13 +294,13 @@ ran settings commands p replies all index room r whole listed =
     (steps_transit (first_ledger settings) 1 commands replies.items r.steps (r.turns ∙ whole))
 
 -- it met no command that counts
-pub ran_uncounted : (settings : Settings) (commands : List Command) (p : Parts) (replies : ReplyList) (index room : ℕ) →
+pub ran_uncounted : (settings : Settings) (commands : List Command) (p : Parts) (replies : ReplyList Reply) (index room : ℕ) →
     IsRunning settings commands p replies index room → index ≡ length commands → HasNoCount commands
 ran_uncounted settings commands p replies index room r whole place e =
     r.no_count place (let below = slice_get_within commands place command.Count e in omega arith) e
 
 -- a run that ran out of memory at a command
-pub ran_out : (settings : Settings) (commands : List Command) (p : Parts) (replies : ReplyList) (index room : ℕ) (asked : Command) →
+pub ran_out : (settings : Settings) (commands : List Command) (p : Parts) (replies : ReplyList Reply) (index room : ℕ) (asked : Command) →
     IsRunning settings commands p replies index room → slice_get commands index ≡ Some asked → RanOut p asked → StopsForMemory settings commands replies.items
 ran_out settings commands p replies index room asked r next out =
     go replies.items (stops_at TakesMemory (first_ledger settings) 1 commands replies.items asked r.steps (ap (slice_get commands) r.turns ∙ next)
@@ -310,7 +311,7 @@ ran_out settings commands p replies index room asked r next out =
     go (reply ∷ rs) stops = stops
 
 -- a run that came to a command that isn't served
-pub ran_unbuilt : (settings : Settings) (commands : List Command) (p : Parts) (replies : ReplyList) (index room : ℕ) (asked : Command) → is_built settings ≡ true →
+pub ran_unbuilt : (settings : Settings) (commands : List Command) (p : Parts) (replies : ReplyList Reply) (index room : ℕ) (asked : Command) → is_built settings ≡ true →
     IsRunning settings commands p replies index room → slice_get commands index ≡ Some asked → asked ≡ command.Count → StopsUnbuilt settings commands replies.items
 ran_unbuilt settings commands p replies index room asked built r next is =
     subst (λ b. MatchBool b (StopsAt IsCount (first_ledger settings) 1 commands replies.items) (replies.items ≡ [])) (sym built)

@@ -2,6 +2,7 @@ pub use Rattle.cal_alloc.specs.Growth
 pub mod Replies
 pub mod Settings
 pub mod Ledger
+pub mod LoanCause
 pub mod Cause
 pub mod Step
 pub mod Built
@@ -12,4 +13,5 @@ pub mod Rules
 pub mod Transit
 pub mod Run
 pub mod Examples
+pub mod OrderExamples
 pub mod Serve

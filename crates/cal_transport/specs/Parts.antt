@@ -11,7 +11,7 @@ use Rattle.cal_transport.specs.declared.reply.Reply.{Reply}
 use Rattle.cal_transport.specs.Settings.{first_buckets, completion_size}
 use Rattle.cal_transport.specs.Entry.{AreRising}
 use Rattle.cal_transport.specs.Ledger.{Ledger, Chunk, Channel, received, occurrences, queued, completed, is_borrowed, borrow_count, is_in_transit}
-use Rattle.cal_transport.specs.Cause.{is_static}
+use Rattle.cal_transport.specs.LoanCause.{is_static}
 use Rattle.cal_transport.specs.Step.{Answers, after}
 
 -- the values of a transport's parts; the last number tells for how many more chunks there is room

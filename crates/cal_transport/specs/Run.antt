@@ -11,7 +11,8 @@ use Rattle.cal_transport.specs.declared.run.RunError.TheVariants.{Create, NoMemo
 use Rattle.cal_transport.specs.Settings.{create_cause}
 use Rattle.cal_transport.specs.Built.{is_built}
 use Rattle.cal_transport.specs.Ledger.{Ledger, Chunk, first_ledger, channel_at, buckets_at, numbers_below, is_in_transit}
-use Rattle.cal_transport.specs.Cause.{cause, needs_segment}
+use Rattle.cal_transport.specs.LoanCause.{needs_segment}
+use Rattle.cal_transport.specs.Cause.{cause, current_segment}
 use Rattle.cal_transport.specs.Step.{Answers, after, slot_of}
 
 -- the chunks in transit on a channel that have this bucket: one at most
@@ -67,7 +68,7 @@ StopsAt P l place (asked ∷ commands) (reply ∷ replies) =
 
 -- the command is one that takes memory: a loan that needs a segment, or a read of some bytes
 abbrev pub TakesMemory : Ledger → Command → Type 0
-TakesMemory l (command.Loan size alignment) = IsTrue (needs_segment l size alignment)
+TakesMemory l (command.Loan size alignment) = IsTrue (needs_segment (current_segment l) size alignment)
 TakesMemory l (command.Read channel name at length) = (0 < length) × (cause l (command.Read channel name at length) ≡ None)
 TakesMemory l asked = ⊥
 

@@ -8,7 +8,8 @@ use Rattle.cal_transport.specs.declared.reply.Slot.{Slot}
 use Rattle.cal_transport.specs.declared.reply.Count.{Count}
 use Rattle.cal_transport.specs.declared.reply.Refusal.{Refusal}
 use Rattle.cal_transport.specs.Ledger.{Ledger, Chunk, Channel, ByReceive, ByOverflow, channel_at, buckets_at, current, chunk_named, is_free, is_mapped, queued, completed, active_segments, mapped_segments}
-use Rattle.cal_transport.specs.Cause.{cause, serves, next_segment, is_buffer_full}
+use Rattle.cal_transport.specs.LoanCause.{serves, next_segment}
+use Rattle.cal_transport.specs.Cause.{cause, current_segment, is_buffer_full}
 
 -- ---- slots
 
@@ -35,8 +36,8 @@ slot_named l (Some name) = option_map (slot_of l) (chunk_named l name)
 -- the next segment is made where the current one doesn't serve
 abbrev pub grown : Ledger → ℕ → ℕ → Ledger
 grown l size alignment =
-    if serves l size alignment then l
-    else record l { segments = l.segments ++ next_segment l size alignment ∷ [] }
+    if serves (current_segment l) size alignment then l
+    else record l { segments = l.segments ++ next_segment (current_segment l) size alignment ∷ [] }
 
 -- a chunk that was just loaned: its bytes are zeros, as many as the bucket has
 abbrev pub new_chunk : ℕ → ℕ → ℕ → ℕ → Chunk

@@ -17,16 +17,20 @@ use crate::settings::{CreateCause, Settings};
 use crate::transport::Transport;
 use cal_alloc::AllocationStrategy;
 use std::alloc::Global;
+use thiserror::Error;
 
 /// Why there is no whole run.
-#[derive(Debug, Drop)]
+#[derive(Debug, Drop, Error)]
 pub enum RunError {
     /// No transport can be made with the settings. No memory was taken.
+    #[error("RunError::Create")]
     Create(CreateCause),
     /// Memory ran out. The replies answer the commands before.
-    NoMemory(Replies),
+    #[error("RunError::NoMemory")]
+    NoMemory(Replies<Reply>),
     /// The settings, or the next command, aren't served yet. The replies answer the commands before.
-    NotBuilt(Replies),
+    #[error("RunError::NotBuilt")]
+    NotBuilt(Replies<Reply>),
 }
 
 /// Why a command has no reply. The transport is as before.
@@ -44,7 +48,7 @@ pub fn run_transport(
     alloc: Global,
     settings: &Settings,
     commands: &[Command],
-) -> Result<Replies, RunError>
+) -> Result<Replies<Reply>, RunError>
     ensures run { IfOk result (λ replies. IsRun settings.now commands.now replies.items) }
     ensures made { OnOk result (create_cause settings.now ≡ None) }
     ensures built { OnOk result (IsTrue (is_built settings.now)) }

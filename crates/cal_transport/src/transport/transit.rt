@@ -21,7 +21,7 @@ impl Transport {
     }
 
     /// Appends a reply for each chunk in transit, by segment and place.
-    pub(crate) fn transit(&self, into: &mut Replies)
+    pub(crate) fn transit(&self, into: &mut Replies<Reply>)
         requires room { min self.now.pool.buckets.count self.now.settings.samples ≤ into.old.spare }
         ensures listed { (l : Ledger) → StandsFor self.now l → into.new.items ≡ into.old.items ++ transit_list l }
     {
@@ -43,7 +43,7 @@ fn append_transit(
     owners: &[usize],
     size: usize,
     limit: usize,
-    into: &mut Replies,
+    into: &mut Replies<Reply>,
 )
     requires room { limit ≤ into.old.spare }
     requires used { LeadUsed used.now entries.now owners.now limit }
