@@ -7,4 +7,5 @@ pub mod Streams
 pub mod ReadAll
 pub mod Printing
 pub mod Outcome
+pub mod Information
 pub mod Examples

@@ -1,5 +1,5 @@
 -- What a run of the program owes: the status, the replies that it hands out, and the text that it writes.
-use Rattle.std.specs.Prelude.{ℕ, ◌≡◌, Bool, true, false, nat_lt, IsTrue, not, ◌&&◌, if◌then◌else◌, ◌⊎◌, List, [], ◌∷◌, ◌++◌, length, Option, Some, None, Result, Ok, Err, decimal, codes, bytes_eq}
+use Rattle.std.specs.Prelude.{ℕ, ◌≡◌, Bool, true, false, nat_lt, IsTrue, not, ◌&&◌, if◌then◌else◌, ◌⊎◌, List, [], ◌∷◌, ◌++◌, length, Option, Some, None, Result, Ok, Err, decimal, codes}
 use Rattle.std.specs.List.{list_any}
 use Rattle.cal_transport.specs.declared.settings.CreateCause.{CreateCause}
 use Rattle.cal_transport.specs.declared.settings.CreateCause.TheVariants.{BadLayout, SizeOutOfRange, SizeIsZero, InternalError}
@@ -11,6 +11,7 @@ use Rattle.cal_transport.specs.Built.{is_built}
 use Rattle.cal_transport.specs.Run.{IsRun, HasNoCount, StopsForMemory, StopsUnbuilt}
 use Rattle.cal_program.specs.declared.status.Status.{Status}
 use Rattle.cal_program.specs.declared.status.Status.TheVariants.{Done, BadScript, NotCreated, ReadFault, WriteFault, NoMemory, Usage, TooLong, NotBuilt}
+use Rattle.cal_program.specs.Words.{is_only_word}
 use Rattle.cal_program.specs.Script.{Reading, script_of}
 use Rattle.cal_program.specs.ReplyText.{line, reply_lines}
 use Rattle.cal_program.specs.Streams.{SourceState, SinkState, Rose, PutsAll, FailsWithin}
@@ -20,9 +21,7 @@ use Rattle.cal_program.specs.ReadAll.{script_limit, ReadsAll, ReadsSome, ReadsTo
 
 -- the command line asks for a run: the one word `run`
 abbrev pub asks_for_run : List (List ℕ) → Bool
-asks_for_run [] = false
-asks_for_run (word ∷ []) = bytes_eq word (codes "run")
-asks_for_run (word ∷ next ∷ words) = false
+asks_for_run words = is_only_word (codes "run") words
 
 -- ---- text
 

@@ -1,7 +1,7 @@
 //! A run of the program: what the words ask for, over a source and a sink.
 
 ghost use Rattle.std.specs.Prelude.{◌≡◌, ◌⊎◌, [], map, string_bytes, IfSome};
-ghost use Rattle.cal_program.specs.Outcome.{asks_for_run, IsAnswer, IsVerdict, IsDue, EndsDue, IsRight, due_status, AreRepliesTo};
+ghost use Rattle.cal_program.specs.Outcome.{IsAnswer, IsVerdict, IsDue, EndsDue, IsRight, due_status, AreRepliesTo};
 ghost use Rattle.cal_program.specs.ReplyText.{reply_lines};
 ghost use Rattle.cal_program.specs.Streams.{Rose, PutsAll};
 
@@ -11,7 +11,7 @@ use crate::script::{ParseError, Script};
 use crate::sink::Sink;
 use crate::source::Source;
 use crate::status::{Outcome, Status};
-use crate::words::is_text;
+use crate::words::is_only_word;
 use cal_transport::{Replies, RunError, run_transport};
 use std::alloc::Global;
 
@@ -67,7 +67,7 @@ fn ended<R: Source, W: Sink>(
 fn due_outcome<R: Source>(alloc: Global, words: &[String], source: &mut R) -> Outcome
     ensures { IsDue (map string_bytes words.now) (R.state source.old) (R.state source.new) result.status result.replies.items }
 {
-    if !asks_for_run(words) {
+    if !is_only_word(words, b"run") {
         return without_replies(alloc, Status::Usage);
     }
     match read_script(alloc, source) {
@@ -76,16 +76,6 @@ fn due_outcome<R: Source>(alloc: Global, words: &[String], source: &mut R) -> Ou
         Err(ReadError::TooLong) => without_replies(alloc, Status::TooLong),
         Err(ReadError::NoMemory) => without_replies(alloc, Status::NoMemory),
     }
-}
-
-/// Whether the words are the one word `run`.
-fn asks_for_run(words: &[String]) -> bool
-    ensures { result ≡ asks_for_run (map string_bytes words.now) }
-{
-    if words.len() != 1 {
-        return false;
-    }
-    is_text(words[0].as_bytes(), b"run")
 }
 
 /// What is due for these bytes.

@@ -1,7 +1,7 @@
 //! Lines and words of a script, and the numbers and bytes that words stand for.
 
-ghost use Rattle.std.specs.Prelude.{◌≡◌, ◌≢◌, ◌<◌, ◌≤◌, ℕ, [], ◌∷◌, length, slice_index, MatchOption, IfSome, IfOk, option_map, bytes_eq};
-ghost use Rattle.cal_program.specs.Words.{words, number_of, begins_well, hex_value, byte_of, bytes_of, bytes_of_letters};
+ghost use Rattle.std.specs.Prelude.{◌≡◌, ◌≢◌, ◌<◌, ◌≤◌, ℕ, [], ◌∷◌, length, slice_index, MatchOption, IfSome, IfOk, option_map, bytes_eq, map, string_bytes};
+ghost use Rattle.cal_program.specs.Words.{words, is_only_word, number_of, begins_well, hex_value, byte_of, bytes_of, bytes_of_letters};
 
 use std::alloc::{AllocError, Global};
 use std::marker::Model;
@@ -64,6 +64,16 @@ pub fn is_text(word: &[u8], text: &[u8]) -> bool
     ensures { result ≡ bytes_eq word.now text.now }
 {
     word == text
+}
+
+/// Whether a text is the one word of a command line.
+pub fn is_only_word(words: &[String], text: &[u8]) -> bool
+    ensures value { result ≡ is_only_word text.now (map string_bytes words.now) }
+{
+    if words.len() != 1 {
+        return false;
+    }
+    is_text(words[0].as_bytes(), text)
 }
 
 /// The number that a word stands for.

@@ -10,6 +10,8 @@ mod replies;
 mod reply;
 mod run;
 mod settings;
+#[cfg(test)]
+mod tests;
 mod transport;
 
 pub use bytes::Bytes;
