@@ -58,9 +58,7 @@ pub(crate) fn fill_front(into: &mut [u8], bytes: &[u8]) -> usize
     ensures front { take result into.new ≡ take result bytes.now }
 {
     let count = into.len().min(bytes.len());
-    for i in 0..count {
-        into[i] = bytes[i];
-    }
+    into[..count].copy_from_slice(&bytes[..count]);
     count
 }
 

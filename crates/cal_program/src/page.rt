@@ -92,12 +92,8 @@ impl Page {
     pub fn number<S: Sink>(&mut self, sink: &mut S, number: usize)
         ensures { Follows self.old (S.state sink.old) self.new (S.state sink.new) (decimal number) }
     {
-        if number < 10 {
-            self.byte(sink, b'0' + number as u8);
-            return;
-        }
-        self.number(sink, number / 10);
-        self.byte(sink, b'0' + (number % 10) as u8);
+        let mut digits = itoa::Buffer::new();
+        self.text(sink, digits.format(number).as_bytes());
     }
 
     /// Prints bytes in hexadecimal, and a dash for no bytes.

@@ -51,12 +51,10 @@ pub fn place_of(bytes: &[u8], separator: u8) -> usize
     ensures before { (k : ℕ) → k < result → slice_index bytes.now k ≢ separator }
     ensures found { result < length bytes.now → slice_index bytes.now result ≡ separator }
 {
-    for (place, byte) in bytes.iter().enumerate() {
-        if *byte == separator {
-            return place;
-        }
-    }
-    bytes.len()
+    bytes
+        .iter()
+        .position(|byte| *byte == separator)
+        .unwrap_or(bytes.len())
 }
 
 /// Whether a word is this text.

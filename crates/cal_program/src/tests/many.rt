@@ -44,10 +44,16 @@ impl Dialog {
         for _ in 0..SIZE {
             letters.push_str("a5")?;
         }
-        self.line(format!(in alloc; "write 1 0 {letters}")?.as_str(), "written")?;
+        self.line(
+            format!(in alloc; "write 1 0 {letters}")?.as_str(),
+            "written",
+        )?;
         self.line("send 0 1", "sent")?;
         self.line("receive 0", "received 1 0:0")?;
-        self.line("read 0 1 0 5000", format!(in alloc; "bytes {letters}")?.as_str())?;
+        self.line(
+            "read 0 1 0 5000",
+            format!(in alloc; "bytes {letters}")?.as_str(),
+        )?;
         self.line("release 0 1", "released")?;
         self.line("reclaim 0", "reclaimed 1 0:0")
     }
@@ -59,9 +65,15 @@ impl Dialog {
         let chunk = bucket + 1;
         let place = bucket * SIZE;
         self.line(format!(in alloc; "send 0 {chunk}")?.as_str(), "sent")?;
-        self.line("receive 0", format!(in alloc; "received {chunk} 0:{place}")?.as_str())?;
+        self.line(
+            "receive 0",
+            format!(in alloc; "received {chunk} 0:{place}")?.as_str(),
+        )?;
         self.line(format!(in alloc; "release 0 {chunk}")?.as_str(), "released")?;
-        self.line("reclaim 0", format!(in alloc; "reclaimed {chunk} 0:{place}")?.as_str())
+        self.line(
+            "reclaim 0",
+            format!(in alloc; "reclaimed {chunk} 0:{place}")?.as_str(),
+        )
     }
 }
 
@@ -78,6 +90,11 @@ fn two_hundred_commands(rt: HostRuntime) -> Result<(), Fail> {
     }
     dialog.line("discard 1", "discarded")?;
     dialog.line("loan 8 8", "loaned 200 0:0")?;
-    assert_run(&rt, dialog.script.as_slice(), Status::Done, dialog.text.as_slice())?;
+    assert_run(
+        &rt,
+        dialog.script.as_slice(),
+        Status::Done,
+        dialog.text.as_slice(),
+    )?;
     Ok(())
 }
