@@ -25,24 +25,13 @@ pub(crate) fn find_entry(entries: &[Entry], name: usize) -> Option<Found>
     requires rising { AreRising entries.now }
     ensures found { MatchOption result (IsUnnamed entries.now name) (IsFound entries.now name) }
 {
-    let mut low = 0;
-    let mut high = entries.len();
-    while low < high {
-        let middle = low + (high - low) / 2;
-        let entry = entries[middle];
-        if entry.name == name {
-            return Some(Found {
-                index: middle,
-                entry,
-            });
-        }
-        if entry.name < name {
-            low = middle + 1;
-        } else {
-            high = middle;
-        }
+    match entries.binary_search_by_key(&name, |entry| entry.name) {
+        Ok(index) => Some(Found {
+            index,
+            entry: entries[index],
+        }),
+        Err(_) => None,
     }
-    None
 }
 
 /// The record of the chunk that has a bucket.

@@ -5,14 +5,14 @@ ghost use Rattle.cal_transport.specs.Settings.{create_cause};
 ghost use Rattle.cal_transport.specs.Built.{is_built};
 ghost use Rattle.cal_transport.specs.Entry.{AreBelow};
 ghost use Rattle.cal_transport.specs.Rules.{DoesAnywhere};
-ghost use Rattle.cal_transport.specs.Serve.{NotServed};
+ghost use Rattle.cal_transport.specs.Serve.{NotServed, reply_to};
 ghost use Rattle.cal_transport.specs.Parts.{Does};
 ghost use Rattle.cal_transport.specs.Run.{IsRun, HasError, HasNoCount};
 
 use crate::bytes::Bytes;
 use crate::command::Command;
 use crate::replies::Replies;
-use crate::reply::Reply;
+use crate::reply::{Refusal, Reply};
 use crate::settings::{CreateCause, Settings};
 use crate::transport::Transport;
 use cal_alloc::AllocationStrategy;
@@ -98,42 +98,34 @@ impl Transport {
         ensures room { self.old.room ≤ self.new.room + 1 }
     {
         match command {
-            Command::Loan { size, alignment } => Ok(match self.loan(place, *size, *alignment) {
-                Ok(slot) => Reply::Loaned(slot),
-                Err(refusal) => Reply::Refused(refusal),
-            }),
-            Command::Write { chunk, at, bytes } => {
-                Ok(match self.write(*chunk, *at, bytes.as_slice()) {
-                    Ok(()) => Reply::Written,
-                    Err(refusal) => Reply::Refused(refusal),
-                })
+            Command::Loan { size, alignment } => Ok(reply_to(
+                self.loan(place, *size, *alignment).map(Reply::Loaned),
+            )),
+            Command::Write { chunk, at, bytes } => Ok(reply_to(
+                self.write(*chunk, *at, bytes.as_slice())
+                    .map(|()| Reply::Written),
+            )),
+            Command::Send { channel, chunk } => {
+                Ok(reply_to(self.send(*channel, *chunk).map(Reply::Sent)))
             }
-            Command::Send { channel, chunk } => Ok(match self.send(*channel, *chunk) {
-                Ok(back) => Reply::Sent(back),
-                Err(refusal) => Reply::Refused(refusal),
-            }),
-            Command::Receive { channel } => Ok(match self.receive(*channel) {
-                Ok(taken) => Reply::Received(taken),
-                Err(refusal) => Reply::Refused(refusal),
-            }),
+            Command::Receive { channel } => {
+                Ok(reply_to(self.receive(*channel).map(Reply::Received)))
+            }
             Command::Read {
                 channel,
                 chunk,
                 at,
                 length,
             } => self.show(alloc, *channel, *chunk, *at, *length),
-            Command::Release { channel, chunk } => Ok(match self.release(*channel, *chunk) {
-                Ok(()) => Reply::Released,
-                Err(refusal) => Reply::Refused(refusal),
-            }),
-            Command::Reclaim { channel } => Ok(match self.reclaim(*channel) {
-                Ok(back) => Reply::Reclaimed(back),
-                Err(refusal) => Reply::Refused(refusal),
-            }),
-            Command::Discard { chunk } => Ok(match self.discard(*chunk) {
-                Ok(()) => Reply::Discarded,
-                Err(refusal) => Reply::Refused(refusal),
-            }),
+            Command::Release { channel, chunk } => Ok(reply_to(
+                self.release(*channel, *chunk).map(|()| Reply::Released),
+            )),
+            Command::Reclaim { channel } => {
+                Ok(reply_to(self.reclaim(*channel).map(Reply::Reclaimed)))
+            }
+            Command::Discard { chunk } => {
+                Ok(reply_to(self.discard(*chunk).map(|()| Reply::Discarded)))
+            }
             Command::Count => Err(ServeError::NotBuilt),
         }
     }
@@ -159,4 +151,11 @@ impl Transport {
             },
         }
     }
+}
+
+/// The reply to a command: what it was answered with, or its refusal.
+fn reply_to(answer: Result<Reply, Refusal>) -> Reply
+    ensures value { result ≡ reply_to answer }
+{
+    answer.unwrap_or_else(Reply::Refused)
 }

@@ -61,14 +61,35 @@ fn replies_with_room(rt: HostRuntime) -> Result<(), Fail> {
 fn each_command_that_is_served(rt: HostRuntime) -> Result<(), Fail> {
     let bytes = Bytes::new(rt.alloc(), b"\x7b\0")?;
     let mut commands = Vec::new(rt.alloc());
-    commands.push(Command::Loan { size: 8, alignment: 8 })?;
-    commands.push(Command::Write { chunk: 1, at: 0, bytes })?;
-    commands.push(Command::Send { channel: 0, chunk: 1 })?;
+    commands.push(Command::Loan {
+        size: 8,
+        alignment: 8,
+    })?;
+    commands.push(Command::Write {
+        chunk: 1,
+        at: 0,
+        bytes,
+    })?;
+    commands.push(Command::Send {
+        channel: 0,
+        chunk: 1,
+    })?;
     commands.push(Command::Receive { channel: 0 })?;
-    commands.push(Command::Read { channel: 0, chunk: 1, at: 0, length: 2 })?;
-    commands.push(Command::Loan { size: 8, alignment: 8 })?;
+    commands.push(Command::Read {
+        channel: 0,
+        chunk: 1,
+        at: 0,
+        length: 2,
+    })?;
+    commands.push(Command::Loan {
+        size: 8,
+        alignment: 8,
+    })?;
     commands.push(Command::Discard { chunk: 1 })?;
-    commands.push(Command::Release { channel: 0, chunk: 1 })?;
+    commands.push(Command::Release {
+        channel: 0,
+        chunk: 1,
+    })?;
     let transit = [
         Reply::Loaned(FIRST),
         Reply::Written,
@@ -78,7 +99,10 @@ fn each_command_that_is_served(rt: HostRuntime) -> Result<(), Fail> {
         Reply::Refused(Refusal::OutOfMemory),
         Reply::Discarded,
         Reply::Released,
-        Reply::Transit { channel: 0, slot: FIRST },
+        Reply::Transit {
+            channel: 0,
+            slot: FIRST,
+        },
     ];
     match run_transport(rt.alloc(), &SMALL, commands.as_slice()) {
         Ok(replies) => assert_replies(&rt, &replies, &transit),
@@ -94,13 +118,22 @@ fn each_command_that_is_served(rt: HostRuntime) -> Result<(), Fail> {
 
 #[test]
 fn why_there_is_no_run(rt: HostRuntime) -> Result<(), Fail> {
-    let odd = Settings { alignment: 3, ..SMALL };
+    let odd = Settings {
+        alignment: 3,
+        ..SMALL
+    };
     let create = run_transport(rt.alloc(), &odd, &[]);
     assert!(rt; matches!(create, Err(RunError::Create(CreateCause::BadLayout))));
-    let growing = Settings { strategy: AllocationStrategy::BestFit, ..SMALL };
+    let growing = Settings {
+        strategy: AllocationStrategy::BestFit,
+        ..SMALL
+    };
     let unbuilt = run_transport(rt.alloc(), &growing, &[]);
     assert!(rt; matches!(&unbuilt, Err(RunError::NotBuilt(replies)) if replies.len() == 0));
-    let large = Settings { size: 1 << 56, ..SMALL };
+    let large = Settings {
+        size: 1 << 56,
+        ..SMALL
+    };
     let no_memory = run_transport(rt.alloc(), &large, &[]);
     assert!(rt; matches!(&no_memory, Err(RunError::NoMemory(replies)) if replies.len() == 0));
     Ok(())
@@ -109,10 +142,19 @@ fn why_there_is_no_run(rt: HostRuntime) -> Result<(), Fail> {
 #[test]
 fn the_texts_of_errors(rt: HostRuntime) -> Result<(), Fail> {
     let create = RunError::Create(CreateCause::BadLayout);
-    assert_eq!(rt; format!(in rt.alloc(); "{create}")?.as_str(), "RunError::Create");
+    assert_eq!(rt;
+        format!(in rt.alloc(); "{create}")?.as_str(),
+        "RunError::Create"
+    );
     let no_memory = RunError::NoMemory(Replies::empty(rt.alloc()));
-    assert_eq!(rt; format!(in rt.alloc(); "{no_memory}")?.as_str(), "RunError::NoMemory");
+    assert_eq!(rt;
+        format!(in rt.alloc(); "{no_memory}")?.as_str(),
+        "RunError::NoMemory"
+    );
     let unbuilt = RunError::NotBuilt(Replies::empty(rt.alloc()));
-    assert_eq!(rt; format!(in rt.alloc(); "{unbuilt}")?.as_str(), "RunError::NotBuilt");
+    assert_eq!(rt;
+        format!(in rt.alloc(); "{unbuilt}")?.as_str(),
+        "RunError::NotBuilt"
+    );
     Ok(())
 }
