@@ -127,9 +127,7 @@ fn settings_of_words(words: &mut Words<'_>) -> Option<Settings>
     let samples = words.next_word()?;
     let segments = words.next_word()?;
     let channels = words.next_word()?;
-    if words.next_word().is_some() {
-        return None;
-    }
+    words.end()?;
     Some(Settings {
         size: number(size)?,
         alignment: number(alignment)?,
@@ -246,9 +244,7 @@ fn loan(words: &mut Words<'_>) -> Option<Command>
 {
     let size = words.next_word()?;
     let alignment = words.next_word()?;
-    if words.next_word().is_some() {
-        return None;
-    }
+    words.end()?;
     Some(Command::Loan {
         size: number(size)?,
         alignment: number(alignment)?,
@@ -291,9 +287,7 @@ fn send(words: &mut Words<'_>) -> Option<Command>
 {
     let channel = words.next_word()?;
     let chunk = words.next_word()?;
-    if words.next_word().is_some() {
-        return None;
-    }
+    words.end()?;
     Some(Command::Send {
         channel: number(channel)?,
         chunk: number(chunk)?,
@@ -304,9 +298,7 @@ fn receive(words: &mut Words<'_>) -> Option<Command>
     ensures { result ≡ receive_of words.old }
 {
     let channel = words.next_word()?;
-    if words.next_word().is_some() {
-        return None;
-    }
+    words.end()?;
     Some(Command::Receive {
         channel: number(channel)?,
     })
@@ -319,9 +311,7 @@ fn read(words: &mut Words<'_>) -> Option<Command>
     let chunk = words.next_word()?;
     let at = words.next_word()?;
     let length = words.next_word()?;
-    if words.next_word().is_some() {
-        return None;
-    }
+    words.end()?;
     Some(Command::Read {
         channel: number(channel)?,
         chunk: number(chunk)?,
@@ -335,9 +325,7 @@ fn release(words: &mut Words<'_>) -> Option<Command>
 {
     let channel = words.next_word()?;
     let chunk = words.next_word()?;
-    if words.next_word().is_some() {
-        return None;
-    }
+    words.end()?;
     Some(Command::Release {
         channel: number(channel)?,
         chunk: number(chunk)?,
@@ -348,9 +336,7 @@ fn reclaim(words: &mut Words<'_>) -> Option<Command>
     ensures { result ≡ reclaim_of words.old }
 {
     let channel = words.next_word()?;
-    if words.next_word().is_some() {
-        return None;
-    }
+    words.end()?;
     Some(Command::Reclaim {
         channel: number(channel)?,
     })
@@ -360,9 +346,7 @@ fn discard(words: &mut Words<'_>) -> Option<Command>
     ensures { result ≡ discard_of words.old }
 {
     let chunk = words.next_word()?;
-    if words.next_word().is_some() {
-        return None;
-    }
+    words.end()?;
     Some(Command::Discard {
         chunk: number(chunk)?,
     })
@@ -371,8 +355,6 @@ fn discard(words: &mut Words<'_>) -> Option<Command>
 fn count(words: &mut Words<'_>) -> Option<Command>
     ensures { result ≡ count_of words.old }
 {
-    if words.next_word().is_some() {
-        return None;
-    }
+    words.end()?;
     Some(Command::Count)
 }

@@ -1,6 +1,6 @@
 //! Lines and words of a script, and the numbers and bytes that words stand for.
 
-ghost use Rattle.std.specs.Prelude.{◌≡◌, ◌≢◌, ◌<◌, ◌≤◌, ℕ, [], ◌∷◌, length, slice_index, MatchOption, IfSome, IfOk, option_map, bytes_eq, map, string_bytes};
+ghost use Rattle.std.specs.Prelude.{◌≡◌, ◌≢◌, ◌<◌, ◌≤◌, ℕ, List, [], ◌∷◌, length, slice_index, MatchOption, IfSome, IfOk, option_map, bytes_eq, map, string_bytes};
 ghost use Rattle.cal_program.specs.Words.{words, is_only_word, number_of, begins_well, hex_value, byte_of, bytes_of, bytes_of_letters};
 
 use std::alloc::{AllocError, Global};
@@ -42,6 +42,17 @@ impl<'a> Words<'a> {
         }
         self.rest = Some(&bytes[place + 1..]);
         Some(&bytes[..place])
+    }
+
+    /// Nothing where a word is left: a form has exactly as many words as were taken.
+    pub fn end(&mut self) -> Option<()>
+        ensures end { MatchOption result
+            ((word : List ℕ) × ((others : List (List ℕ)) × (self.old ≡ word ∷ others))) (λ _. self.old ≡ []) }
+    {
+        match self.next_word() {
+            Some(_) => None,
+            None => Some(()),
+        }
     }
 }
 
