@@ -72,17 +72,7 @@ pub record WriterState (W : Type 0) : Type 0 where
   pub writer : W
   pub faults : ℕ
 
--- ---- streams in memory, of which each call is numbered from 0, and some are to fail
-
-pub record MemorySourceState : Type 0 where
-  pub state : SourceState
-  pub calls : ℕ
-  pub failing : List ℕ
-
-pub record MemorySinkState : Type 0 where
-  pub state : SinkState
-  pub calls : ℕ
-  pub failing : List ℕ
+-- ---- new streams
 
 -- a source that gave nothing yet
 abbrev pub new_source : Option (List ℕ) → SourceState
@@ -91,7 +81,3 @@ new_source left = record { left = left; given = 0; faults = 0 }
 -- a sink that took nothing yet
 abbrev pub new_sink : Option (List ℕ) → SinkState
 new_sink written = record { written = written; faults = 0 }
-
--- the number of calls after one more; it stands still at its type's end
-abbrev pub one_more_call : ℕ → ℕ
-one_more_call calls = min (calls + 1) (2 ^ 64 - 1)

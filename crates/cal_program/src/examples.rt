@@ -62,7 +62,7 @@ pub fn slots_have_text()
 
 /// The lines of the first example, spelled from what they say.
 pub fn a_script_is_spelled()
-    ensures { one_chunk ≡ join_with_byte 10 (settings_line small_settings ∷ map command_line one_chunk_commands) }
+    ensures spelled { one_chunk ≡ join_with_byte 10 (settings_line small_settings ∷ map command_line one_chunk_commands) }
 {}
 
 /// Lines of replies.

@@ -5,12 +5,10 @@
 ghost use Rattle.std.specs.Prelude.{◌≡◌, map, string_bytes, option_map};
 ghost use Rattle.cal_program.specs.Information.{information_of};
 
-mod clean;
 mod examples;
 mod help;
 mod laws;
-mod memory;
-mod page;
+mod output_buffer;
 mod print;
 mod read;
 mod run_program;

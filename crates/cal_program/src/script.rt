@@ -14,14 +14,16 @@ use std::marker::Model;
 /// What a script says.
 #[derive(Debug, Drop)]
 pub struct Script {
+    /// The first line.
     settings: Settings,
+    /// The further lines, in order.
     commands: Vec<Command>,
 }
 
 impl Model for Script {
-    ghost use Rattle.cal_program.specs.Script.{Reading};
+    ghost use Rattle.cal_program.specs.Script.{ParsedScript};
 
-    ghost Value = { Reading };
+    ghost Value = { ParsedScript };
 
     ghost view = { λ s. record { settings = s.settings; commands = s.commands.items } };
 }
@@ -38,7 +40,7 @@ pub enum ParseError {
 impl Script {
     /// What these bytes say as a script.
     pub fn parse(alloc: Global, bytes: &[u8]) -> Result<Script, ParseError>
-        ensures { Parses bytes.now result }
+        ensures parsed { Parses bytes.now result }
     {
         let mut lines = Lines { rest: bytes };
         let Some(first) = lines.next_line() else {
@@ -55,14 +57,14 @@ impl Script {
 
     /// The settings, which are the first line.
     pub fn settings(&self) -> &Settings
-        ensures { result.now ≡ self.now.settings }
+        ensures value { result.now ≡ self.now.settings }
     {
         &self.settings
     }
 
     /// The commands, in the order of their lines.
     pub fn commands(&self) -> &[Command]
-        ensures { result.now ≡ self.now.commands }
+        ensures value { result.now ≡ self.now.commands }
     {
         self.commands.as_slice()
     }
@@ -71,6 +73,7 @@ impl Script {
 /// The lines that are left.
 #[derive(Drop)]
 struct Lines<'a> {
+    /// The bytes from the next line on.
     rest: &'a [u8],
 }
 

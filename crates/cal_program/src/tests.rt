@@ -4,15 +4,17 @@ ghost use Rattle.std.specs.Prelude.{◌≡◌, ◌<◌, ◌≤◌, length, take,
 ghost use Rattle.std.specs.Io.KnownBytes.{IsAtEnd};
 ghost use Rattle.cal_program.specs.Streams.{Takes, TakesNothing};
 
+mod clean;
 mod many;
+mod memory;
 mod streams;
 mod worked_examples;
 
-use crate::memory::{MemorySink, MemorySource};
 use crate::read::SCRIPT_LIMIT;
 use crate::run_program::run_program;
 use crate::source::{Failed, Source};
 use crate::status::Status;
+use crate::tests::memory::{MemorySink, MemorySource};
 use cal_transport::CreateCause;
 use std::alloc::{AllocError, Global};
 use std::process::Abort;

@@ -9,6 +9,7 @@ use std::marker::Model;
 /// The words of a line that are left.
 #[derive(Drop)]
 pub struct Words<'a> {
+    /// The bytes from the next word on; none where the last word was taken.
     rest: Option<&'a [u8]>,
 }
 
@@ -25,14 +26,14 @@ impl<'a> Model for Words<'a> {
 impl<'a> Words<'a> {
     /// All words of a line.
     pub fn of(line: &'a [u8]) -> Words<'a>
-        ensures { result ≡ words line.now }
+        ensures words { result ≡ words line.now }
     {
         Words { rest: Some(line) }
     }
 
     /// The next word, if there is one.
     pub fn next_word(&mut self) -> Option<&'a [u8]>
-        ensures { MatchOption result ((self.old ≡ []) × (self.new ≡ [])) (λ word. self.old ≡ word.now ∷ self.new) }
+        ensures next { MatchOption result ((self.old ≡ []) × (self.new ≡ [])) (λ word. self.old ≡ word.now ∷ self.new) }
     {
         let bytes = self.rest?;
         let place = place_of(bytes, b' ');
@@ -70,7 +71,7 @@ pub fn place_of(bytes: &[u8], separator: u8) -> usize
 
 /// Whether a word is this text.
 pub fn is_text(word: &[u8], text: &[u8]) -> bool
-    ensures { result ≡ bytes_eq word.now text.now }
+    ensures value { result ≡ bytes_eq word.now text.now }
 {
     word == text
 }
@@ -87,7 +88,7 @@ pub fn is_only_word(words: &[String], text: &[u8]) -> bool
 
 /// The number that a word stands for.
 pub fn number(word: &[u8]) -> Option<usize>
-    ensures { result ≡ number_of word.now }
+    ensures value { result ≡ number_of word.now }
 {
     if !begins_well(word) {
         return None;
@@ -115,7 +116,7 @@ fn begins_well(word: &[u8]) -> bool
 
 /// The bytes that a word stands for.
 pub fn bytes(alloc: Global, word: &[u8]) -> Result<Option<Vec<u8>>, AllocError>
-    ensures { IfOk result (λ found. option_map (λ bytes. bytes.items) found ≡ bytes_of word.now) }
+    ensures value { IfOk result (λ found. option_map (λ bytes. bytes.items) found ≡ bytes_of word.now) }
 {
     if word.is_empty() {
         return Ok(None);

@@ -14,7 +14,7 @@ use Rattle.cal_transport.specs.declared.reply.Refusal.TheVariants.{ExceedsMaxSup
 use Rattle.cal_transport.specs.Ledger.{Chunk, is_live, is_free, numbers_below, is_in_transit}
 use Rattle.cal_transport.specs.LoanCause.{static_cause, serves}
 use Rattle.cal_transport.specs.Cause.{is_full, current_segment}
-use Rattle.cal_transport.specs.Parts.{Parts, Shown, Show, ledger_of, lives}
+use Rattle.cal_transport.specs.Parts.{Parts, LedgerRest, AgreesWith, ledger_of, is_live_on}
 use Rattle.cal_transport.specs.Rules.{refusal_of, IsPools}
 
 -- ---- lists
@@ -71,7 +71,7 @@ all_set (false ∷ marks) k e below = absurd (true≢false (sym e))
 
 -- ---- free buckets
 
-live_is : (p : Parts) (w : Shown) (chunk : Chunk) → is_live (ledger_of p w) chunk ≡ lives w.channel chunk
+live_is : (p : Parts) (w : LedgerRest) (chunk : Chunk) → is_live (ledger_of p w) chunk ≡ is_live_on w.channel chunk
 live_is p w chunk = go chunk.loaned (is_in_transit w.channel chunk.name)
   where
     go : (a b : Bool) → (a || (b || false)) ≡ (a || b)
@@ -79,7 +79,7 @@ live_is p w chunk = go chunk.loaned (is_in_transit w.channel chunk.name)
     go false true = refl
     go false false = refl
 
-pub free_is : (p : Parts) (w : Shown) (bucket : ℕ) → Show p w → is_free (ledger_of p w) 0 bucket ≡ not (is_used p.pool bucket)
+pub free_is : (p : Parts) (w : LedgerRest) (bucket : ℕ) → AgreesWith p w → is_free (ledger_of p w) 0 bucket ≡ not (is_used p.pool bucket)
 free_is p w bucket h = go (is_used p.pool bucket) refl
   where
     go : (b : Bool) → is_used p.pool bucket ≡ b → is_free (ledger_of p w) 0 bucket ≡ not (is_used p.pool bucket)
@@ -96,7 +96,7 @@ free_is p w bucket h = go (is_used p.pool bucket) refl
         grind (arith, nat_tests))))
         ∙ ap not (sym free)
 
-pub full_is : (p : Parts) (w : Shown) → Show p w → is_full (ledger_of p w) ≡ pool.is_full p.pool
+pub full_is : (p : Parts) (w : LedgerRest) → AgreesWith p w → is_full (ledger_of p w) ≡ pool.is_full p.pool
 full_is p w h = go (pool.is_full p.pool) refl
   where
     go : (b : Bool) → pool.is_full p.pool ≡ b → is_full (ledger_of p w) ≡ pool.is_full p.pool
@@ -108,7 +108,7 @@ full_is p w h = go (pool.is_full p.pool) refl
 
 -- ---- the refusals of a static memory
 
-pub static_cause_is : (p : Parts) (w : Shown) (layout : SizeAndAlignment) → Show p w →
+pub static_cause_is : (p : Parts) (w : LedgerRest) (layout : SizeAndAlignment) → AgreesWith p w →
     static_cause (current_segment (ledger_of p w)) layout.size layout.alignment ≡ option_map refusal_of (pool_refusal p.pool layout)
 static_cause_is p w layout h =
     ap (λ b. cond (nat_lt p.pool.buckets.alignment layout.alignment) (Some ExceedsMaxSupportedAlignment)
@@ -149,7 +149,7 @@ serves_layout p layout q = go (nat_lt p.buckets.alignment layout.alignment) (nat
     go false false true x y z q = absurd (none-some error.OutOfMemory q)
 
 -- the current segment then serves the loan, so that none is made
-pub serves_is : (p : Parts) (w : Shown) (layout : SizeAndAlignment) → Show p w → ServesLayout p.pool layout →
+pub serves_is : (p : Parts) (w : LedgerRest) (layout : SizeAndAlignment) → AgreesWith p w → ServesLayout p.pool layout →
     serves (current_segment (ledger_of p w)) layout.size layout.alignment ≡ true
 serves_is p w layout h s =
     let room : is_full (ledger_of p w) ≡ false = full_is p w h ∙ s.room in

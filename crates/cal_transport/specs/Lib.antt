@@ -6,7 +6,7 @@ pub mod LoanCause
 pub mod Cause
 pub mod Step
 pub mod Built
-pub mod Entry
+pub mod ChunkRecord
 pub mod Parts
 pub mod PartsOf
 pub mod Rules

@@ -7,7 +7,7 @@ use Rattle.cal_transport.specs.declared.settings.Settings.{Settings}
 use Rattle.cal_transport.specs.declared.command.Command.TheVariants.{Loan, Write, Send, Receive, Read, Release, Reclaim, Count}
 use Rattle.cal_transport.specs.declared.reply.Reply.TheVariants.{Loaned, Written, Sent, Received, Shown, Released, Reclaimed, Counted, Refused, Transit}
 use Rattle.cal_transport.specs.declared.reply.Refusal.TheVariants.{SizeTooLarge, SizeOutOfRange, NotLoaned, WriteAfterSend, OutsideChunk, OutsideConnection, AlreadyInTransit, ReceiveWouldExceedMaxBorrowValue, NotBorrowed}
-use Rattle.cal_transport.specs.Settings.{clamped}
+use Rattle.cal_transport.specs.Settings.{clamped_settings}
 use Rattle.cal_transport.specs.Run.{IsRun}
 use Rattle.cal_transport.specs.Examples.{static_settings, growing_settings, slot}
 
@@ -75,7 +75,7 @@ OutsideSamples = IsRun (first_bucket_settings 1 1 1 1 1)
 
 -- zeros count as ones
 abbrev pub ZerosCountAsOnes : Type 0
-ZerosCountAsOnes = clamped (first_bucket_settings 0 0 0 0 0) ≡ first_bucket_settings 1 1 1 1 1
+ZerosCountAsOnes = clamped_settings (first_bucket_settings 0 0 0 0 0) ≡ first_bucket_settings 1 1 1 1 1
 
 -- ... in a run, too
 abbrev pub ZeroSettings : Type 0

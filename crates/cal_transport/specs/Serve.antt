@@ -9,11 +9,11 @@ use Rattle.cal_transport.specs.declared.run.ServeError.{ServeError}
 use Rattle.cal_transport.specs.declared.run.ServeError.TheVariants.{NoMemory, NotBuilt}
 use Rattle.cal_transport.specs.Ledger.{Ledger}
 use Rattle.cal_transport.specs.Run.{TakesMemory}
-use Rattle.cal_transport.specs.Parts.{Parts, StandsFor}
+use Rattle.cal_transport.specs.Parts.{Parts, Represents}
 
 -- memory ran out at a command that takes some, in every ledger that the transport stands for
 abbrev pub RanOut : Parts → Command → Type 0
-RanOut p asked = (l : Ledger) → StandsFor p l → TakesMemory l asked
+RanOut p asked = (l : Ledger) → Represents p l → TakesMemory l asked
 
 -- the command isn't answered
 abbrev pub NotServed : Parts → Command → ServeError → Type 0

@@ -2,8 +2,8 @@
 #![tactic(auto)]
 
 mod bytes;
+mod chunk_record;
 mod command;
-mod entry;
 pub mod examples;
 mod memory;
 mod replies;

@@ -3,7 +3,7 @@
 ghost use Rattle.std.specs.Prelude.{◌≡◌, ◌≢◌, ◌+◌, ◌<◌, ◌≤◌, OnOk, IfOk, IfErr, None, Some, Err, IsTrue};
 ghost use Rattle.cal_transport.specs.Settings.{create_cause};
 ghost use Rattle.cal_transport.specs.Built.{is_built};
-ghost use Rattle.cal_transport.specs.Entry.{AreBelow};
+ghost use Rattle.cal_transport.specs.ChunkRecord.{AreBelow};
 ghost use Rattle.cal_transport.specs.Rules.{DoesAnywhere};
 ghost use Rattle.cal_transport.specs.Serve.{NotServed, reply_to};
 ghost use Rattle.cal_transport.specs.Parts.{Does};
@@ -90,7 +90,7 @@ fn is_built(settings: &Settings) -> bool
 impl Transport {
     /// Answers one command. A chunk that it loans is named by the command's place, which is greater than all names.
     fn serve(&mut self, alloc: Global, place: usize, command: &Command) -> Result<Reply, ServeError>
-        requires below { AreBelow self.old.entries place }
+        requires below { AreBelow self.old.records place }
         requires room { 0 < self.old.room }
         ensures served { IfOk result (λ reply. Does self.old place command.now reply self.new) }
         ensures error { IfErr result (NotServed self.old command.now) }

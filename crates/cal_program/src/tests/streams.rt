@@ -1,12 +1,12 @@
 //! Streams that fail in the middle, and outputs of several pages.
 
-use crate::clean::{CleanSink, CleanSource};
-use crate::memory::{MemorySink, MemorySource};
 use crate::run_program::run_program;
 use crate::sink::Sink;
 use crate::source::{Failed, Source};
 use crate::status::Status;
 use crate::std_streams::{StdSink, StdSource};
+use crate::tests::clean::{CleanSink, CleanSource};
+use crate::tests::memory::{MemorySink, MemorySource};
 use crate::tests::{ONE_CHUNK, ONE_CHUNK_LINES, words_of};
 use std::alloc::{AllocError, AllocGlobal, Global};
 use std::io;

@@ -2,9 +2,9 @@
 //! A due line that ends in `*` holds for every place, since a loan may take any free bucket. Where a place is given and
 //! another bucket was free as well, it is the one that today's pool chooses.
 
-use crate::memory::{MemorySink, MemorySource};
 use crate::run_program::run_program;
 use crate::status::Status;
+use crate::tests::memory::{MemorySink, MemorySource};
 use crate::tests::words_of;
 use std::alloc::AllocGlobal;
 use std::process::Abort;

@@ -1,4 +1,4 @@
-use Rattle.std.proofs.Common.{◌≤◌, ◌+◌, length, vec_len, take, arith, rules}
+use Rattle.std.proofs.Common.{◌≤◌, ◌+◌, vec_len, take, arith, rules}
 use Rattle.std.proofs.lemmas.List.{length-append, length-take}
 use Rattle.cal_program.proofs.StreamLemmas.{Takes-then}
 use Rattle.cal_program.proofs.read.read_blocks.Goals as goal

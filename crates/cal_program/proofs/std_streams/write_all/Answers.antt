@@ -1,4 +1,4 @@
-use Rattle.std.proofs.Common.{◌≡◌, ◌++◌, [], take, List, ℕ, subst}
+use Rattle.std.proofs.Common.{◌++◌, take, ℕ, subst}
 use Rattle.std.specs.Io.KnownBytes.{Appends}
 use Rattle.cal_program.proofs.StreamLemmas.{Appends-then, AppendsFront-kept, AppendsFront-none}
 use Rattle.cal_program.proofs.PieceLemmas.{sent-more}

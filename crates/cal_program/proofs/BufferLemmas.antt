@@ -7,24 +7,24 @@ use Rattle.std.proofs.lemmas.Option.{same_Some}
 use Rattle.cal_transport.specs.declared.reply.Reply.{Reply}
 use Rattle.cal_program.specs.ReplyText.{line, reply_text, reply_lines}
 use Rattle.cal_program.specs.Streams.{SinkState, Puts, PutsFront, PutsAll, FailsWithin}
-use Rattle.cal_program.specs.Printing.{PageState, PutsToHeld, HasShown, Follows}
+use Rattle.cal_program.specs.Printing.{BufferState, PutsToHeld, HasPrinted, Follows}
 use Rattle.cal_program.specs.Spelling.{hex, hex_pair}
 use Rattle.cal_program.proofs.StreamLemmas.{Puts-none, Puts-then, PutsFront-then, PutsFront-more}
 
-abbrev pub page_state : List ℕ → Bool → PageState
-page_state held failed = record { held = held; failed = failed }
+abbrev pub buffer_state : List ℕ → Bool → BufferState
+buffer_state held failed = record { held = held; failed = failed }
 
 -- nothing was done
-pub Follows-none : (p : PageState) (s : SinkState) → Follows p s p s []
-Follows-none p s from shown h = subst (λ (t : List ℕ). HasShown from p s t) (sym (append-nil shown)) h
+pub Follows-none : (p : BufferState) (s : SinkState) → Follows p s p s []
+Follows-none p s from shown h = subst (λ (t : List ℕ). HasPrinted from p s t) (sym (append-nil shown)) h
 
 -- one text after another
-pub Follows-then : (a b c : PageState) (s t u : SinkState) (x y : List ℕ) → Follows a s b t x → Follows b t c u y → Follows a s c u (x ++ y)
+pub Follows-then : (a b c : BufferState) (s t u : SinkState) (x y : List ℕ) → Follows a s b t x → Follows b t c u y → Follows a s c u (x ++ y)
 Follows-then a b c s t u x y p q from shown h =
-    subst (λ (t : List ℕ). HasShown from c u t) (append_assoc shown x y) (q from (shown ++ x) (p from shown h))
+    subst (λ (t : List ℕ). HasPrinted from c u t) (append_assoc shown x y) (q from (shown ++ x) (p from shown h))
 
 -- the page holds the text
-Follows-held-by : (failed : Bool) (h x : List ℕ) (s : SinkState) → Follows (page_state h failed) s (page_state (h ++ x) failed) s x
+Follows-held-by : (failed : Bool) (h x : List ℕ) (s : SinkState) → Follows (buffer_state h failed) s (buffer_state (h ++ x) failed) s x
 Follows-held-by true h x s from shown p = record { some = omega (arith, p.some, length-append shown x); puts = PutsFront-more from s shown x p.puts }
 Follows-held-by false h x s from shown p = record {
   put = p.put;
@@ -32,12 +32,12 @@ Follows-held-by false h x s from shown p = record {
   puts = p.puts;
 }
 
-pub Follows-held : (page now : PageState) (h x : List ℕ) (failed : Bool) (s : SinkState) → page_state h failed ≡ page → page_state (h ++ x) failed ≡ now → Follows page s now s x
-Follows-held page now h x failed s e f =
-    subst (λ (p : PageState). Follows p s now s x) e (subst (λ (p : PageState). Follows (page_state h failed) s p s x) f (Follows-held-by failed h x s))
+pub Follows-held : (buffer now : BufferState) (h x : List ℕ) (failed : Bool) (s : SinkState) → buffer_state h failed ≡ buffer → buffer_state (h ++ x) failed ≡ now → Follows buffer s now s x
+Follows-held buffer now h x failed s e f =
+    subst (λ (p : BufferState). Follows p s now s x) e (subst (λ (p : BufferState). Follows (buffer_state h failed) s p s x) f (Follows-held-by failed h x s))
 
 -- what the page held was put
-Follows-put-by : (h : List ℕ) (s t : SinkState) → Puts s t h → 0 < length h → Follows (page_state h false) s (page_state [] false) t []
+Follows-put-by : (h : List ℕ) (s t : SinkState) → Puts s t h → 0 < length h → Follows (buffer_state h false) s (buffer_state [] false) t []
 Follows-put-by h s t puts some from shown p = record {
   put = p.put ++ h;
   parts = append-nil shown ∙ p.parts ∙ sym (append-nil (p.put ++ h));
@@ -47,13 +47,13 @@ Follows-put-by h s t puts some from shown p = record {
   };
 }
 
-pub Follows-put : (page : PageState) (h : List ℕ) (failed : Bool) (s t : SinkState) → page_state h failed ≡ page → failed ≡ false → Puts s t h → 0 < length h → Follows page s (page_state [] failed) t []
-Follows-put page h failed s t e clean puts some =
-    subst (λ (p : PageState). Follows p s (page_state [] failed) t []) e
-    (subst (λ (b : Bool). Follows (page_state h b) s (page_state [] b) t []) (sym clean) (Follows-put-by h s t puts some))
+pub Follows-put : (buffer : BufferState) (h : List ℕ) (failed : Bool) (s t : SinkState) → buffer_state h failed ≡ buffer → failed ≡ false → Puts s t h → 0 < length h → Follows buffer s (buffer_state [] failed) t []
+Follows-put buffer h failed s t e clean puts some =
+    subst (λ (p : BufferState). Follows p s (buffer_state [] failed) t []) e
+    (subst (λ (b : Bool). Follows (buffer_state h b) s (buffer_state [] b) t []) (sym clean) (Follows-put-by h s t puts some))
 
 -- what the page held wasn't put
-Follows-failed-by : (h : List ℕ) (s t : SinkState) → PutsFront s t h → 0 < length h → Follows (page_state h false) s (page_state [] true) t []
+Follows-failed-by : (h : List ℕ) (s t : SinkState) → PutsFront s t h → 0 < length h → Follows (buffer_state h false) s (buffer_state [] true) t []
 Follows-failed-by h s t puts some from shown p =
     let whole : shown ++ [] ≡ p.put ++ h = append-nil shown ∙ p.parts in
     record {
@@ -61,10 +61,10 @@ Follows-failed-by h s t puts some from shown p =
       puts = subst (λ (t' : List ℕ). PutsFront from t t') (sym whole) (PutsFront-then from s t p.put h p.puts.puts puts);
     }
 
-pub Follows-failed : (page : PageState) (h : List ℕ) (failed : Bool) (s t : SinkState) → page_state h failed ≡ page → failed ≡ false → PutsFront s t h → 0 < length h → Follows page s (page_state [] true) t []
-Follows-failed page h failed s t e clean puts some =
-    subst (λ (p : PageState). Follows p s (page_state [] true) t []) e
-    (subst (λ (b : Bool). Follows (page_state h b) s (page_state [] true) t []) (sym clean) (Follows-failed-by h s t puts some))
+pub Follows-failed : (buffer : BufferState) (h : List ℕ) (failed : Bool) (s t : SinkState) → buffer_state h failed ≡ buffer → failed ≡ false → PutsFront s t h → 0 < length h → Follows buffer s (buffer_state [] true) t []
+Follows-failed buffer h failed s t e clean puts some =
+    subst (λ (p : BufferState). Follows p s (buffer_state [] true) t []) e
+    (subst (λ (b : Bool). Follows (buffer_state h b) s (buffer_state [] true) t []) (sym clean) (Follows-failed-by h s t puts some))
 
 -- bytes that are some have no dash
 pub hex-some : (bytes : List ℕ) → 0 < length bytes → flat_map hex_pair bytes ≡ hex bytes
@@ -73,25 +73,25 @@ hex-some (byte ∷ bytes) h = refl
 
 -- ---- a whole text, from an empty page to an empty page
 
-pub shown-none : (s : SinkState) → HasShown s (page_state [] false) s []
+pub shown-none : (s : SinkState) → HasPrinted s (buffer_state [] false) s []
 shown-none s = record { put = []; parts = refl; puts = record { puts = Puts-none s; untouched = λ none. refl } }
 
-pub shown-failed : (from now : SinkState) (page : PageState) (text : List ℕ) → page.failed ≡ true → HasShown from page now text → FailsWithin from now text
-shown-failed from now page text failed h = subst (λ (b : Bool). MatchBool b (FailsWithin from now text) (PutsToHeld from now page.held text)) failed h
+pub shown-failed : (from now : SinkState) (buffer : BufferState) (text : List ℕ) → buffer.failed ≡ true → HasPrinted from buffer now text → FailsWithin from now text
+shown-failed from now buffer text failed h = subst (λ (b : Bool). MatchBool b (FailsWithin from now text) (PutsToHeld from now buffer.held text)) failed h
 
 PutsToHeld-all : (from now : SinkState) (held text : List ℕ) → held ≡ [] → PutsToHeld from now held text → PutsAll from now text
 PutsToHeld-all from now held text none p =
     subst (λ (t : List ℕ). PutsAll from now t) (sym (p.parts ∙ ap (λ (h : List ℕ). p.put ++ h) none ∙ append-nil p.put)) p.puts
 
-pub shown-all : (from now : SinkState) (page : PageState) (text : List ℕ) → page.failed ≡ false → page.held ≡ [] → HasShown from page now text → PutsAll from now text
-shown-all from now page text clean none h =
-    PutsToHeld-all from now page.held text none
-    (subst (λ (b : Bool). MatchBool b (FailsWithin from now text) (PutsToHeld from now page.held text)) clean h)
+pub shown-all : (from now : SinkState) (buffer : BufferState) (text : List ℕ) → buffer.failed ≡ false → buffer.held ≡ [] → HasPrinted from buffer now text → PutsAll from now text
+shown-all from now buffer text clean none h =
+    PutsToHeld-all from now buffer.held text none
+    (subst (λ (b : Bool). MatchBool b (FailsWithin from now text) (PutsToHeld from now buffer.held text)) clean h)
 
 -- ---- texts of several parts
 
-pub shows-same : (from : SinkState) (page : PageState) (s : SinkState) (x y : List ℕ) → x ≡ y → HasShown from page s x → HasShown from page s y
-shows-same from page s x y e h = subst (λ (t : List ℕ). HasShown from page s t) e h
+pub shows-same : (from : SinkState) (buffer : BufferState) (s : SinkState) (x y : List ℕ) → x ≡ y → HasPrinted from buffer s x → HasPrinted from buffer s y
+shows-same from buffer s x y e h = subst (λ (t : List ℕ). HasPrinted from buffer s t) e h
 
 pub slot-parts : (shown w a b c : List ℕ) → (((((shown ++ w) ++ a) ++ 32 ∷ []) ++ b) ++ 58 ∷ []) ++ c ≡ shown ++ (w ++ ((((a ++ 32 ∷ []) ++ b) ++ 58 ∷ []) ++ c))
 slot-parts shown w a b c = simp append_assoc
@@ -100,18 +100,18 @@ pub count-parts : (shown a b c d e : List ℕ) → ((((((((shown ++ a) ++ 32 ∷
 count-parts shown a b c d e = simp append_assoc
 
 -- a whole text failed
-pub whole-failed : (p q r : PageState) (s t u : SinkState) (text : List ℕ) → p ≡ page_state [] false → Follows p s q t text → Follows q t r u [] → r.failed ≡ true → FailsWithin s u text
+pub whole-failed : (p q r : BufferState) (s t u : SinkState) (text : List ℕ) → p ≡ buffer_state [] false → Follows p s q t text → Follows q t r u [] → r.failed ≡ true → FailsWithin s u text
 whole-failed p q r s t u text new f g failed =
     shown-failed s u r text failed
     (shows-same s r u (text ++ []) text (append-nil text)
-    (g s text (f s [] (subst (λ (page : PageState). HasShown s page s []) (sym new) (shown-none s)))))
+    (g s text (f s [] (subst (λ (buffer : BufferState). HasPrinted s buffer s []) (sym new) (shown-none s)))))
 
 -- a whole text was put
-pub whole-all : (p q r : PageState) (s t u : SinkState) (text : List ℕ) → p ≡ page_state [] false → Follows p s q t text → Follows q t r u [] → r.failed ≡ false → r.held ≡ [] → PutsAll s u text
+pub whole-all : (p q r : BufferState) (s t u : SinkState) (text : List ℕ) → p ≡ buffer_state [] false → Follows p s q t text → Follows q t r u [] → r.failed ≡ false → r.held ≡ [] → PutsAll s u text
 whole-all p q r s t u text new f g clean none =
     shown-all s u r text clean none
     (shows-same s r u (text ++ []) text (append-nil text)
-    (g s text (f s [] (subst (λ (page : PageState). HasShown s page s []) (sym new) (shown-none s)))))
+    (g s text (f s [] (subst (λ (buffer : BufferState). HasPrinted s buffer s []) (sym new) (shown-none s)))))
 
 -- one reply more
 pub reply_lines-more : (replies : List Reply) (place : ℕ) (reply : Reply) → slice_get replies place ≡ Some reply → reply_lines (take (suc place) replies) ≡ reply_lines (take place replies) ++ line (reply_text reply)

@@ -11,7 +11,9 @@ use std::marker::Model;
 /// A source of bytes in memory. It tells them, and never fails.
 #[derive(Debug, Drop)]
 pub struct CleanSource<'a> {
+    /// All bytes that it gives.
     bytes: &'a [u8],
+    /// How many bytes it gave so far, at most as many as there are.
     given: usize,
 }
 
@@ -29,7 +31,7 @@ impl<'a> Model for CleanSource<'a> {
 impl<'a> CleanSource<'a> {
     /// A source of these bytes.
     pub fn new(bytes: &'a [u8]) -> CleanSource<'a>
-        ensures { result ≡ new_source (Some bytes.now) }
+        ensures fresh { result ≡ new_source (Some bytes.now) }
     {
         CleanSource { bytes, given: 0 }
     }

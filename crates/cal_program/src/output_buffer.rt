@@ -1,4 +1,4 @@
-//! A page of text: what is printed gathers in it, and each full page is put into a sink. It takes no memory.
+//! The output's buffer: what is printed gathers in it, and is put into a sink each time that it is full. It takes no memory.
 
 ghost use Rattle.std.specs.Prelude.{◌≡◌, ◌<◌, ◌∷◌, [], decimal, false};
 ghost use Rattle.cal_program.specs.Printing.{Follows};
@@ -7,35 +7,38 @@ ghost use Rattle.cal_program.specs.Spelling.{hex, hex_letter, hex_pair};
 use crate::sink::Sink;
 use std::marker::Model;
 
-/// How many bytes a page has.
-const PAGE_SIZE: usize = 4096;
+/// How many bytes a buffer has.
+const BUFFER_SIZE: usize = 4096;
 
 /// The bytes that aren't put yet. Once the sink failed, it is called no more.
 #[derive(Drop)]
-pub struct Page {
-    bytes: [u8; PAGE_SIZE],
+pub struct OutputBuffer {
+    /// Room for the bytes; those that are held come first.
+    bytes: [u8; BUFFER_SIZE],
+    /// How many bytes are held.
     held: usize,
+    /// Whether the sink failed.
     failed: bool,
 }
 
-impl Model for Page {
+impl Model for OutputBuffer {
     ghost use Rattle.std.specs.Prelude.{◌≡◌, ◌≤◌, length, take};
-    ghost use Rattle.cal_program.specs.Printing.{PageState};
+    ghost use Rattle.cal_program.specs.Printing.{BufferState};
 
-    ghost Value = { PageState };
+    ghost Value = { BufferState };
 
     ghost view = { λ p. record { held = take p.held p.bytes; failed = p.failed } };
 
     ghost invariant = { λ p. (p.held ≤ 4096) × (length p.bytes ≡ 4096) };
 }
 
-impl Page {
-    /// An empty page.
-    pub fn new() -> Page
-        ensures { result ≡ record { held = []; failed = false } }
+impl OutputBuffer {
+    /// An empty buffer.
+    pub fn new() -> OutputBuffer
+        ensures empty { result ≡ record { held = []; failed = false } }
     {
-        Page {
-            bytes: [0; PAGE_SIZE],
+        OutputBuffer {
+            bytes: [0; BUFFER_SIZE],
             held: 0,
             failed: false,
         }
@@ -43,12 +46,12 @@ impl Page {
 
     /// Whether the sink failed.
     pub fn has_failed(&self) -> bool
-        ensures { result ≡ self.now.failed }
+        ensures value { result ≡ self.now.failed }
     {
         self.failed
     }
 
-    /// Puts what the page holds. The sink isn't called where it holds nothing.
+    /// Puts what the buffer holds. The sink isn't called where it holds nothing.
     pub fn flush<S: Sink>(&mut self, sink: &mut S)
         ensures text { Follows self.old (S.state sink.old) self.new (S.state sink.new) [] }
         ensures empty { self.new.held ≡ [] }
@@ -70,9 +73,9 @@ impl Page {
 
     /// Prints a byte.
     pub fn byte<S: Sink>(&mut self, sink: &mut S, byte: u8)
-        ensures { Follows self.old (S.state sink.old) self.new (S.state sink.new) (byte ∷ []) }
+        ensures text { Follows self.old (S.state sink.old) self.new (S.state sink.new) (byte ∷ []) }
     {
-        if self.held == PAGE_SIZE {
+        if self.held == BUFFER_SIZE {
             self.flush(sink);
         }
         self.bytes[self.held] = byte;
@@ -81,7 +84,7 @@ impl Page {
 
     /// Prints bytes as they are.
     pub fn text<S: Sink>(&mut self, sink: &mut S, text: &[u8])
-        ensures { Follows self.old (S.state sink.old) self.new (S.state sink.new) text.now }
+        ensures text { Follows self.old (S.state sink.old) self.new (S.state sink.new) text.now }
     {
         for byte in text {
             self.byte(sink, *byte);
@@ -90,7 +93,7 @@ impl Page {
 
     /// Prints a number in decimal.
     pub fn number<S: Sink>(&mut self, sink: &mut S, number: usize)
-        ensures { Follows self.old (S.state sink.old) self.new (S.state sink.new) (decimal number) }
+        ensures text { Follows self.old (S.state sink.old) self.new (S.state sink.new) (decimal number) }
     {
         let mut digits = itoa::Buffer::new();
         self.text(sink, digits.format(number).as_bytes());
@@ -98,7 +101,7 @@ impl Page {
 
     /// Prints bytes in hexadecimal, and a dash for no bytes.
     pub fn hex<S: Sink>(&mut self, sink: &mut S, bytes: &[u8])
-        ensures { Follows self.old (S.state sink.old) self.new (S.state sink.new) (hex bytes.now) }
+        ensures text { Follows self.old (S.state sink.old) self.new (S.state sink.new) (hex bytes.now) }
     {
         if bytes.is_empty() {
             self.byte(sink, b'-');

@@ -2,27 +2,33 @@
 
 ghost use Rattle.std.specs.Prelude.{◌≡◌, ◌<◌, ◌≤◌, ◌↔◌, [], length, take, Contains, Some, IfOk, IsErr, OnOk, OnErr};
 ghost use Rattle.std.specs.Io.KnownBytes.{IsAtEnd};
-ghost use Rattle.cal_program.specs.Streams.{Takes, TakesNothing, Puts, PutsFront, new_source, new_sink, one_more_call};
+ghost use Rattle.cal_program.specs.Streams.{Takes, TakesNothing, Puts, PutsFront, new_source, new_sink};
+ghost use Rattle.cal_program.specs.MemoryStreams.{one_more_call};
 
-use crate::clean::fill_front;
 use crate::sink::Sink;
 use crate::source::{Failed, Source};
+use crate::tests::clean::fill_front;
 use std::alloc::Global;
 use std::marker::Model;
 
 /// A source of bytes in memory. It tells them.
 #[derive(Debug, Drop)]
 pub struct MemorySource<'a> {
+    /// All bytes that it gives.
     bytes: &'a [u8],
+    /// Which calls fail, counted from 0.
     failing: &'a [u64],
+    /// How many bytes it gave so far, at most as many as there are.
     given: usize,
+    /// How many calls there were. It stands still at its type's end.
     calls: u64,
+    /// How many calls failed. It stands still at its type's end.
     faults: u64,
 }
 
 impl<'a> Model for MemorySource<'a> {
     ghost use Rattle.std.specs.Prelude.{◌≤◌, Some, length, drop};
-    ghost use Rattle.cal_program.specs.Streams.{MemorySourceState};
+    ghost use Rattle.cal_program.specs.MemoryStreams.{MemorySourceState};
 
     ghost Value = { MemorySourceState };
 
@@ -38,7 +44,7 @@ impl<'a> Model for MemorySource<'a> {
 impl<'a> MemorySource<'a> {
     /// A source of these bytes. Its calls of these numbers, from 0, fail.
     pub fn new(bytes: &'a [u8], failing: &'a [u64]) -> MemorySource<'a>
-        ensures { result ≡ record { state = new_source (Some bytes.now); calls = 0; failing = failing.now } }
+        ensures fresh { result ≡ record { state = new_source (Some bytes.now); calls = 0; failing = failing.now } }
     {
         MemorySource {
             bytes,
@@ -78,15 +84,19 @@ impl<'a> Source for MemorySource<'a> {
 /// A sink in memory. It tells its bytes. Want of memory is a fault as any other.
 #[derive(Debug, Drop)]
 pub struct MemorySink<'a> {
+    /// The bytes that it took.
     bytes: Vec<u8>,
+    /// Which calls fail, counted from 0.
     failing: &'a [u64],
+    /// How many calls there were. It stands still at its type's end.
     calls: u64,
+    /// How many calls failed. It stands still at its type's end.
     faults: u64,
 }
 
 impl<'a> Model for MemorySink<'a> {
     ghost use Rattle.std.specs.Prelude.{Some};
-    ghost use Rattle.cal_program.specs.Streams.{MemorySinkState};
+    ghost use Rattle.cal_program.specs.MemoryStreams.{MemorySinkState};
 
     ghost Value = { MemorySinkState };
 
@@ -100,7 +110,7 @@ impl<'a> Model for MemorySink<'a> {
 impl<'a> MemorySink<'a> {
     /// A sink with no byte. Its calls of these numbers, from 0, fail and put nothing.
     pub fn new(alloc: Global, failing: &'a [u64]) -> MemorySink<'a>
-        ensures { result ≡ record { state = new_sink (Some []); calls = 0; failing = failing.now } }
+        ensures fresh { result ≡ record { state = new_sink (Some []); calls = 0; failing = failing.now } }
     {
         MemorySink {
             bytes: Vec::new(alloc),
@@ -112,7 +122,7 @@ impl<'a> MemorySink<'a> {
 
     /// The bytes that were put.
     pub fn as_slice(&self) -> &[u8]
-        ensures { Some result.now ≡ self.now.state.written }
+        ensures value { Some result.now ≡ self.now.state.written }
     {
         self.bytes.as_slice()
     }

@@ -1,6 +1,6 @@
 use Rattle.std.proofs.Common.{take}
 use Rattle.cal_program.specs.Printing.{Follows}
-use Rattle.cal_program.proofs.page.Page.text.Given as goal
+use Rattle.cal_program.proofs.output_buffer.OutputBuffer.text.Given as goal
 
 abbrev pub invariant-loop-byte : goal.invariant-loop-byte
 invariant-loop-byte g l =
