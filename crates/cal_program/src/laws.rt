@@ -18,10 +18,12 @@ pub fn a_command_is_read_again()
 
 /// A line that is read as settings is the settings' one spelling.
 pub fn settings_have_one_spelling()
-    ensures law { (line : List ℕ) (settings : Settings) → settings_of line ≡ Some settings → line ≡ settings_line settings }
+    ensures law { (line : List ℕ) (settings : Settings) → settings_of line ≡ Some settings →
+        line ≡ settings_line settings }
 {}
 
 /// The spelling of settings is read as the settings.
 pub fn settings_are_read_again()
-    ensures law { (settings : Settings) → HasSettingsSpelling settings → settings_of (settings_line settings) ≡ Some settings }
+    ensures law { (settings : Settings) → HasSettingsSpelling settings →
+        settings_of (settings_line settings) ≡ Some settings }
 {}

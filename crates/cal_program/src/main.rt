@@ -61,7 +61,8 @@ fn words_of<R: Env + AllocGlobal>(rt: &R) -> io::Result<Vec<String>> {
 
 /// The text of the one word that asks for information.
 fn information(words: &[String]) -> Option<&'static str>
-    ensures text { option_map (λ text. text.now) result ≡ information_of HELP.now VERSION.now (map string_bytes words.now) }
+    ensures text { option_map (λ text. text.now) result ≡
+        information_of HELP.now VERSION.now (map string_bytes words.now) }
 {
     if is_only_word(words, b"--help") {
         return Some(HELP);

@@ -1,4 +1,5 @@
-//! The output's buffer: what is printed gathers in it, and is put into a sink each time that it is full. It takes no memory.
+//! The output's buffer: what is printed gathers in it, and is put into a sink each time that it is full. It takes no
+//! memory.
 
 ghost use Rattle.std.specs.Prelude.{◌≡◌, ◌<◌, ◌∷◌, [], decimal, false};
 ghost use Rattle.cal_program.specs.Printing.{Follows};

@@ -35,7 +35,8 @@ fn print_status<S: Sink>(
     status: Status,
     replies: &Replies<Reply>,
 )
-    ensures { Follows buffer.old (S.state sink.old) buffer.new (S.state sink.new) (status_text status replies.now.items) }
+    ensures { Follows buffer.old (S.state sink.old) buffer.new (S.state sink.new)
+        (status_text status replies.now.items) }
 {
     match status {
         Status::Done => print_replies(buffer, sink, replies),

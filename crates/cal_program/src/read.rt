@@ -25,8 +25,8 @@ pub enum ReadError {
     NoMemory,
 }
 
-/// All bytes that the source has left, up to the limit. ParsedScript stops at the first fault, and after the first byte past
-/// the limit.
+/// All bytes that the source has left, up to the limit. Reading stops at the first fault, and after the first byte
+/// past the limit.
 pub fn read_script<R: Source>(alloc: Global, source: &mut R) -> Result<Vec<u8>, ReadError>
     ensures reading { EndsReading (R.state source.old) (R.state source.new) result }
 {

@@ -27,8 +27,10 @@ pub fn run_program<R: Source, W: Sink>(
         (W.state sink.old) (W.state sink.new) result.status result.replies.items }
 
     // A run that is done wrote the text of its replies, and they are a run of the ledger.
-    ensures done { result.status ≡ Status.Done → IfSome (R.state source.old).left (λ bytes. AreRepliesTo bytes result.replies.items) }
-    ensures written { result.status ≡ Status.Done → PutsAll (W.state sink.old) (W.state sink.new) (reply_lines result.replies.items) }
+    ensures done { result.status ≡ Status.Done →
+        IfSome (R.state source.old).left (λ bytes. AreRepliesTo bytes result.replies.items) }
+    ensures written { result.status ≡ Status.Done →
+        PutsAll (W.state sink.old) (W.state sink.new) (reply_lines result.replies.items) }
 
     // Each status comes exactly where it is due, but for faults and want of memory. So a valid script that is served is
     // done, unless memory runs out or the source or the sink fails.
@@ -60,7 +62,8 @@ fn run_and_print<R: Source, W: Sink>(
 
 /// What is due to be written.
 fn due_outcome<R: Source>(alloc: Global, words: &[String], source: &mut R) -> Outcome
-    ensures { IsDue (map string_bytes words.now) (R.state source.old) (R.state source.new) result.status result.replies.items }
+    ensures { IsDue (map string_bytes words.now) (R.state source.old) (R.state source.new)
+        result.status result.replies.items }
 {
     if !is_only_word(words, b"run") {
         return without_replies(alloc, Status::Usage);

@@ -52,7 +52,7 @@ impl Status {
 pub struct Outcome {
     /// How it ended.
     pub status: Status,
-    /// The replies of the whole run, where that is done or its replies were due to be written; the replies before memory
-    /// ran out; else none.
+    /// The replies of the whole run, where that is done or its replies were due to be written; the replies before
+    /// memory ran out; else none.
     pub replies: Replies<Reply>,
 }

@@ -1,4 +1,4 @@
-//! Standard input and standard output as a source and a sink. They tell as many bytes as their reader and writer do; those
+//! Standard input and standard output as a source and a sink. They tell the bytes that their reader and writer tell; those
 //! of the process tell none.
 
 ghost use Rattle.std.specs.Prelude.{◌≡◌, OnOk, OnErr};

@@ -30,7 +30,8 @@ const ONE_CHUNK_LINES: &[u8] =
 
 /// Each command that is served, in a script whose chunk comes back.
 const EACH_COMMAND: &[u8] =
-    b"transport 8 8 1 static 1 1 off 1 1 1\nloan 8 8\nwrite 1 0 7b00\nsend 0 1\nreceive 0\nread 0 1 0 2\nrelease 0 1\nreclaim 0\ndiscard 1\n";
+    b"transport 8 8 1 static 1 1 off 1 1 1\nloan 8 8\nwrite 1 0 7b00\nsend 0 1\nreceive 0\nread 0 1 0 2\n\
+      release 0 1\nreclaim 0\ndiscard 1\n";
 
 /// The replies to it, if it is whole.
 const EACH_REPLY: &[u8] =

@@ -53,7 +53,8 @@ pub fn run_transport(
     ensures made { OnOk result (create_cause settings.now ≡ None) }
     ensures built { OnOk result (IsTrue (is_built settings.now)) }
     ensures served { OnOk result (HasNoCount commands.now) }
-    ensures create { (cause : CreateCause) → create_cause settings.now ≡ Some cause → result ≡ Err (RunError.Create cause) }
+    ensures create { (cause : CreateCause) → create_cause settings.now ≡ Some cause →
+        result ≡ Err (RunError.Create cause) }
     ensures error { IfErr result (HasError settings.now commands.now) }
 {
     if let Some(cause) = settings.create_cause() {
@@ -139,7 +140,8 @@ impl Transport {
         at: usize,
         length: usize,
     ) -> Result<Reply, ServeError>
-        ensures shown { IfOk result (λ reply. DoesAnywhere self.now (Command.Read channel chunk at length) reply self.now) }
+        ensures shown { IfOk result (λ reply.
+            DoesAnywhere self.now (Command.Read channel chunk at length) reply self.now) }
         ensures error { IfErr result (NotServed self.now (Command.Read channel chunk at length)) }
     {
         match self.read(channel, chunk, at, length) {

@@ -5,7 +5,8 @@ ghost use Rattle.cal_transport.specs.Settings.{clamped_settings, create_cause, f
 
 use cal_alloc::AllocationStrategy;
 
-/// The settings of a transport. A zero buffer, borrow limit, number of samples, of segments or of channels counts as one.
+/// The settings of a transport. A zero buffer, borrow limit, number of samples, of segments or of channels counts as
+/// one.
 #[derive(Clone, Copy, Debug, PartialEq, Eq)]
 pub struct Settings {
     /// The size in bytes of the largest chunk that is expected.
@@ -97,7 +98,8 @@ impl Settings {
 
     fn is_too_large(&self) -> bool
         requires aligned { 0 < self.now.alignment }
-        ensures value { result ≡ is_too_large (first_layout self.now) || has_too_large_connection (clamped_settings self.now) }
+        ensures value { result ≡
+            is_too_large (first_layout self.now) || has_too_large_connection (clamped_settings self.now) }
     {
         if self.has_too_large_segment() {
             return true;

@@ -15,8 +15,8 @@ use std::test::Fail;
 /// The bytes that a page of output holds.
 const PAGE: usize = 4096;
 
-/// A script of more than one block, whose replies take more than two pages: a discard of a chunk that isn't there, 1,000
-/// times.
+/// A script of more than one block, whose replies take more than two pages: a discard of a chunk that isn't there,
+/// 1,000 times.
 fn long_script(alloc: Global) -> Result<Vec<u8>, AllocError> {
     let mut script = Vec::from_slice(alloc, b"transport 8 8 1 static 1 1 off 1 1 1")?;
     for _ in 0..1000 {

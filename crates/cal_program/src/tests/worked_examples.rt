@@ -140,8 +140,8 @@ fn each_cause_in_its_order(rt: HostRuntime) -> Result<(), Fail> {
         "transport 8 8 1 static 2 2 off 1 1 1;loan 0 1;send 0 1;send 0 1;write 1 0 01;read 0 1 0 1;receive 0;\
          release 0 1;release 0 1;reclaim 0;send 0 1;send 1 1;send 0 5;receive 9;discard 1;discard 1",
         "loaned 1 0:0;sent;refused AlreadyInTransit;refused WriteAfterSend;refused NotBorrowed;received 1 0:0;released;\
-         refused NotBorrowed;reclaimed 1 0:0;sent;refused OutsideConnection;refused NotLoaned;refused OutsideConnection;\
-         discarded;refused NotLoaned",
+         refused NotBorrowed;reclaimed 1 0:0;sent;refused OutsideConnection;refused NotLoaned;\
+         refused OutsideConnection;discarded;refused NotLoaned",
         &[1],
     )
 }
@@ -197,7 +197,8 @@ fn a_bucket_past_the_samples(rt: HostRuntime) -> Result<(), Fail> {
 fn settings_of_zeros(rt: HostRuntime) -> Result<(), Fail> {
     assert_lines(
         &rt,
-        "transport 8 8 2 static 0 0 off 0 0 0;loan 8 8;loan 8 8;send 0 2;send 1 1;send 0 1;receive 0;receive 0;receive 1",
+        "transport 8 8 2 static 0 0 off 0 0 0;loan 8 8;loan 8 8;send 0 2;send 1 1;send 0 1;receive 0;receive 0;\
+         receive 1",
         "loaned 1 0:0;loaned 2 0:8;refused OutsideConnection;refused OutsideConnection;sent;received 1 0:0;\
          refused ReceiveWouldExceedMaxBorrowValue;refused OutsideConnection",
         &[1],

@@ -48,7 +48,8 @@ fn append_transit(
     requires room { limit ≤ into.old.spare }
     requires used { LeadUsed used.now records.now record_indices.now limit }
     requires small { limit * size < 2 ^ 64 }
-    ensures listed { into.new.items ≡ into.old.items ++ flat_map (transit_reply used.now records.now record_indices.now size) (numbers_below limit) }
+    ensures listed { into.new.items ≡ into.old.items
+        ++ flat_map (transit_reply used.now records.now record_indices.now size) (numbers_below limit) }
 {
     for bucket in 0..limit {
         if used.contains(bucket) {
