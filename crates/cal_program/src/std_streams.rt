@@ -1,5 +1,5 @@
-//! Standard input and standard output as a source and a sink. They tell the bytes that their reader and writer tell; those
-//! of the process tell none.
+//! Standard input and standard output as a source and a sink. They tell the bytes that their reader and writer tell;
+//! those of the process tell none.
 
 ghost use Rattle.std.specs.Prelude.{◌≡◌, OnOk, OnErr};
 ghost use Rattle.std.specs.Io.KnownBytes.{Appends};

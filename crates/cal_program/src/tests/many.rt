@@ -1,5 +1,5 @@
-//! A run of 200 commands over 64 buckets with a read of 5,000 bytes, compared whole. An answer that memory ran out without
-//! cause, which no clause can refuse, is refused here. The places are those that today's pool chooses.
+//! A run of 200 commands over 64 buckets with a read of 5,000 bytes, compared whole. An answer that memory ran out
+//! without cause, which no clause can refuse, is refused here. The places are those that today's pool chooses.
 
 ghost use Rattle.std.specs.Prelude.{◌<◌};
 
