@@ -121,7 +121,7 @@ EndsDue words source_before source_now sink_before sink_now status replies =
 
 -- ---- when each status comes, where the source tells its bytes
 
--- A status may come in place of the due one: a fault, where the count of faults rose, and want of memory.
+-- A status may come in place of the due one: a fault, where the count of faults rose, and out of memory.
 abbrev pub IsExcused : List (List ℕ) → List ℕ → SourceState → SourceState → SinkState → SinkState → Status → Type 0
 IsExcused words bytes source_before source_now sink_before sink_now ReadFault =
     IsTrue (asks_for_run words) × Rose source_before.faults source_now.faults

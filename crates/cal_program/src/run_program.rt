@@ -32,7 +32,7 @@ pub fn run_program<R: Source, W: Sink>(
     ensures written { result.status ≡ Status.Done →
         PutsAll (W.state sink.old) (W.state sink.new) (reply_lines result.replies.items) }
 
-    // Each status comes exactly where it is due, but for faults and want of memory. So a valid script that is served is
+    // Each status comes exactly where it is due, but for faults and out of memory. So a valid script that is served is
     // done, unless memory runs out or the source or the sink fails.
     ensures exact { IfSome (R.state source.old).left (λ bytes. IsDueOrExcused (map string_bytes words.now) bytes
         (R.state source.old) (R.state source.new) (W.state sink.old) (W.state sink.new) result.status) }

@@ -14,7 +14,7 @@ use Rattle.cal_transport.specs.declared.reply.Reply.TheVariants.{Transit}
 use Rattle.cal_transport.specs.Ledger.{Ledger, Chunk, numbers_below, is_in_transit, layout_at}
 use Rattle.cal_transport.specs.Step.{slot_of}
 use Rattle.cal_transport.specs.Run.{transit_at, transit_list}
-use Rattle.cal_transport.specs.Transit.{transit_reply, record_behind, reply_of, LeadUsed}
+use Rattle.cal_transport.specs.Transit.{transit_reply, record_of_index, reply_of, LeadUsed}
 use Rattle.cal_transport.specs.Parts.{Parts, LedgerRest, AgreesWith, Represents, ledger_of, record_of, is_live_on, weight}
 use Rattle.cal_transport.proofs.Names.{is_in_transit-weight}
 use Rattle.cal_transport.proofs.Update.{record_at, transit_lives, bucket_within, buckets_apart}
@@ -153,7 +153,7 @@ bucket_told p w bucket h = go (contains p.used bucket) refl
         map (λ chunk. Transit 0 (slot_of (ledger_of p w) chunk)) (transit_at (ledger_of p w) 0 0 bucket) ≡ transit_reply p.used p.records p.record_indices p.pool.buckets.size bucket
     go false unused =
         ap (map (λ chunk. Transit 0 (slot_of (ledger_of p w) chunk))) (filter_none (is_at p w bucket) w.chunks (none_told p w bucket h unused))
-        ∙ sym (ap (λ b. cond b (reply_of (record_behind p.records (slice_get p.record_indices bucket)) (bucket * p.pool.buckets.size)) []) unused)
+        ∙ sym (ap (λ b. cond b (reply_of (record_of_index p.records (slice_get p.record_indices bucket)) (bucket * p.pool.buckets.size)) []) unused)
     go true used =
         let m = moving p w bucket h used in
         let segment = (h.placed m.index m.chunk m.stands).segment in
@@ -165,8 +165,8 @@ bucket_told p w bucket h = go (contains p.used bucket) refl
         ∙ ap (λ seg. T seg m.chunk.bucket) segment
         ∙ ap (T 0) there
         ∙ sym (ap (λ o. reply_of o (bucket * p.pool.buckets.size)) (record_at p w m.index m.chunk h m.stands))
-        ∙ sym (ap (λ o. reply_of (record_behind p.records o) (bucket * p.pool.buckets.size)) m.owner)
-        ∙ sym (ap (λ b. cond b (reply_of (record_behind p.records (slice_get p.record_indices bucket)) (bucket * p.pool.buckets.size)) []) used)
+        ∙ sym (ap (λ o. reply_of (record_of_index p.records o) (bucket * p.pool.buckets.size)) m.owner)
+        ∙ sym (ap (λ b. cond b (reply_of (record_of_index p.records (slice_get p.record_indices bucket)) (bucket * p.pool.buckets.size)) []) used)
 
 -- the walk lists the chunks in transit
 pub walk_is : (p : Parts) (w : LedgerRest) → AgreesWith p w →
@@ -175,7 +175,7 @@ walk_is p w h =
     let R : ℕ → List Reply = transit_reply p.used p.records p.record_indices p.pool.buckets.size in
     let T : Chunk → Reply = λ chunk. Transit 0 (slot_of (ledger_of p w) chunk) in
     sym (flat_map_cut R p.pool.buckets.count p.settings.samples (λ k past.
-    ap (λ b. cond b (reply_of (record_behind p.records (slice_get p.record_indices k)) (k * p.pool.buckets.size)) []) (past_unused p w k h past)))
+    ap (λ b. cond b (reply_of (record_of_index p.records (slice_get p.record_indices k)) (k * p.pool.buckets.size)) []) (past_unused p w k h past)))
     ∙ sym (flat_map_below (λ k. map T (transit_at (ledger_of p w) 0 0 k)) R p.pool.buckets.count (λ k below. bucket_told p w k h))
     ∙ sym (map-flat_map T (transit_at (ledger_of p w) 0 0) (numbers_below p.pool.buckets.count))
     ∙ sym (ap (map T) (append-nil (flat_map (transit_at (ledger_of p w) 0 0) (numbers_below p.pool.buckets.count))))

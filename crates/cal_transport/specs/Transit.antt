@@ -16,11 +16,11 @@ abbrev pub reply_of : Option ChunkRecord → ℕ → List Reply
 reply_of None place = []
 reply_of (Some entry) place = Transit 0 (record { chunk = entry.name; segment = 0; place = place }) ∷ []
 
-abbrev pub record_behind : List ChunkRecord → Option ℕ → Option ChunkRecord
-record_behind records None = None
-record_behind records (Some index) = slice_get records index
+abbrev pub record_of_index : List ChunkRecord → Option ℕ → Option ChunkRecord
+record_of_index records None = None
+record_of_index records (Some index) = slice_get records index
 
 -- the reply that tells of a bucket's chunk, where it is in transit
 abbrev pub transit_reply : UsedChunks → List ChunkRecord → List ℕ → ℕ → ℕ → List Reply
 transit_reply used records record_indices size bucket =
-    if contains used bucket then reply_of (record_behind records (slice_get record_indices bucket)) (bucket * size) else []
+    if contains used bucket then reply_of (record_of_index records (slice_get record_indices bucket)) (bucket * size) else []

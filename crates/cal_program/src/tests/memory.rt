@@ -81,7 +81,7 @@ impl<'a> Source for MemorySource<'a> {
     }
 }
 
-/// A sink in memory. It tells its bytes. Want of memory is a fault as any other.
+/// A sink in memory. It tells its bytes. Out of memory is a fault as any other.
 #[derive(Debug, Drop)]
 pub struct MemorySink<'a> {
     /// The bytes that it took.

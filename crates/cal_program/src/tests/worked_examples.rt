@@ -66,7 +66,7 @@ fn assert_replies(rt: &impl Abort, text: &str, due: &str) {
     }
 }
 
-/// Asserts that the lines behind the replies tell these chunks, by place.
+/// Asserts that the lines after the replies tell these chunks, by place.
 fn assert_transit(
     rt: &(impl Abort + AllocGlobal),
     text: &str,
