@@ -9,17 +9,17 @@ use Rattle.cal_transport.specs.declared.command.Command.{Command}
 use Rattle.cal_transport.specs.declared.reply.Reply.{Reply}
 use Rattle.cal_transport.specs.Settings.{create_cause}
 use Rattle.cal_transport.specs.Ledger.{Ledger, first_ledger}
-use Rattle.cal_transport.specs.Step.{after}
+use Rattle.cal_transport.specs.Step.{after_step}
 use Rattle.cal_transport.specs.Built.{is_built}
 use Rattle.cal_transport.specs.declared.command.Command.TheVariants as command
 use Rattle.cal_transport.specs.Run.{StopsAt, StopsUnbuilt, IsCount, HasNoCount}
 use Rattle.cal_program.specs.declared.status.Status.{Status}
 use Rattle.cal_program.specs.declared.status.Status.TheVariants.{Done, BadScript, NotCreated, ReadFault, WriteFault, NoMemory, Usage, TooLong, NotBuilt}
-use Rattle.cal_program.specs.Script.{Reading, script_of}
+use Rattle.cal_program.specs.Script.{ParsedScript, script_of}
 use Rattle.cal_program.specs.ReplyText.{reply_lines}
 use Rattle.cal_program.specs.Streams.{SourceState, SinkState, Rose, PutsAll}
 use Rattle.cal_program.specs.ReadAll.{script_limit, ReadsAll}
-use Rattle.cal_program.specs.Outcome.{asks_for_run, status_text, script_status, due_status, IsAnswer, IsVerdict, IsDue, IsWritten, EndsDue, is_unbuilt, IsRight, AreRepliesTo}
+use Rattle.cal_program.specs.Outcome.{asks_for_run, status_text, script_status, due_status, IsOutcomeOfScript, IsOutcomeOfBytes, IsDue, IsWritten, EndsDue, is_unbuilt, IsDueOrExcused, AreRepliesTo}
 
 -- ---- the bytes that were read are those that the source told
 
@@ -63,7 +63,7 @@ stops-unbuilt : (l : Ledger) (place : ℕ) (commands : List Command) (replies : 
 stops-unbuilt l place [] replies h = absurd h
 stops-unbuilt l place (asked ∷ commands) [] h = any-first asked commands (ap is_unbuilt h)
 stops-unbuilt l place (asked ∷ commands) (reply ∷ replies) h =
-    any-later asked commands (stops-unbuilt (after l place asked reply) (place + 1) commands replies h.1)
+    any-later asked commands (stops-unbuilt (after_step l place asked reply) (place + 1) commands replies h.1)
 
 no-count : (commands : List Command) → HasNoCount commands → list_any is_unbuilt commands ≡ false
 no-count [] h = refl
@@ -77,10 +77,10 @@ no-count (command.Reclaim channel ∷ commands) h = no-count commands (λ place.
 no-count (command.Discard chunk ∷ commands) h = no-count commands (λ place. h (suc place))
 no-count (command.Count ∷ commands) h = absurd (h 0 refl)
 
-done-status : (script : Reading) → create_cause script.settings ≡ None → is_built script.settings ≡ true → HasNoCount script.commands → Done ≡ script_status (Ok script)
+done-status : (script : ParsedScript) → create_cause script.settings ≡ None → is_built script.settings ≡ true → HasNoCount script.commands → Done ≡ script_status (Ok script)
 done-status script created built h = rw (created, built, no-count script.commands h) refl
 
-stops-status : (script : Reading) (replies : List Reply) (built : Bool) → create_cause script.settings ≡ None → is_built script.settings ≡ built → StopsUnbuilt script.settings script.commands replies → NotBuilt ≡ script_status (Ok script)
+stops-status : (script : ParsedScript) (replies : List Reply) (built : Bool) → create_cause script.settings ≡ None → is_built script.settings ≡ built → StopsUnbuilt script.settings script.commands replies → NotBuilt ≡ script_status (Ok script)
 stops-status script replies false created built h = rw (created, built) refl
 stops-status script replies true created built h =
     let stops = subst (λ (b : Bool). MatchBool b (StopsAt IsCount (first_ledger script.settings) 1 script.commands replies) (replies ≡ [])) built h in
@@ -89,10 +89,10 @@ stops-status script replies true created built h =
 -- ---- what was judged of bytes that were read
 
 -- the status is that of the script, or it comes for want of memory
-abbrev IsFair : Status → Result Reading ℕ → Type 0
+abbrev IsFair : Status → Result ParsedScript ℕ → Type 0
 IsFair status found = (status ≡ script_status found) ⊎ (status ≡ NoMemory)
 
-answer-fair : (script : Reading) (status : Status) (replies : List Reply) → IsAnswer script status replies → IsFair status (Ok script)
+answer-fair : (script : ParsedScript) (status : Status) (replies : List Reply) → IsOutcomeOfScript script status replies → IsFair status (Ok script)
 answer-fair script Done replies h = inl (done-status script h.0 h.1 h.2)
 answer-fair script (BadScript number) replies h = absurd h
 answer-fair script (NotCreated cause) replies h = inl (rw h.0 refl)
@@ -103,10 +103,10 @@ answer-fair script Usage replies h = absurd h
 answer-fair script TooLong replies h = absurd h
 answer-fair script NotBuilt replies h = inl (stops-status script h.1.0 (is_built script.settings) h.0 refl h.1.1)
 
-script-fair : (bytes : List ℕ) (status : Status) (replies : List Reply) → ((script : Reading) × (script_of bytes ≡ Ok script) × IsAnswer script status replies) → IsFair status (script_of bytes)
-script-fair bytes status replies h = subst (λ (found : Result Reading ℕ). IsFair status found) (sym h.1) (answer-fair h.0 status replies h.2)
+script-fair : (bytes : List ℕ) (status : Status) (replies : List Reply) → ((script : ParsedScript) × (script_of bytes ≡ Ok script) × IsOutcomeOfScript script status replies) → IsFair status (script_of bytes)
+script-fair bytes status replies h = subst (λ (found : Result ParsedScript ℕ). IsFair status found) (sym h.1) (answer-fair h.0 status replies h.2)
 
-verdict-fair : (bytes : List ℕ) (status : Status) (replies : List Reply) → IsVerdict bytes status replies → IsFair status (script_of bytes)
+verdict-fair : (bytes : List ℕ) (status : Status) (replies : List Reply) → IsOutcomeOfBytes bytes status replies → IsFair status (script_of bytes)
 verdict-fair bytes (BadScript number) replies h = inl (rw h.0 refl)
 verdict-fair bytes NoMemory replies h = inr refl
 verdict-fair bytes Done replies h = script-fair bytes Done replies h
@@ -119,26 +119,26 @@ verdict-fair bytes NotBuilt replies h = script-fair bytes NotBuilt replies h
 
 -- ---- the status that is due
 
-excused-right : (words : List (List ℕ)) (bytes : List ℕ) (before now : SourceState) (sink_before sink_now : SinkState) (status : Status) → IsTrue (asks_for_run words) → due_status words bytes ≡ script_status (script_of bytes) → IsFair status (script_of bytes) → IsRight words bytes before now sink_before sink_now status
+excused-right : (words : List (List ℕ)) (bytes : List ℕ) (before now : SourceState) (sink_before sink_now : SinkState) (status : Status) → IsTrue (asks_for_run words) → due_status words bytes ≡ script_status (script_of bytes) → IsFair status (script_of bytes) → IsDueOrExcused words bytes before now sink_before sink_now status
 excused-right words bytes before now sink_before sink_now status asks due fair =
     elim fair [
       | inl e ↦ inl (e ∙ sym due)
-      | inr e ↦ subst (λ (s : Status). IsRight words bytes before now sink_before sink_now s) (sym e) (inr asks)
+      | inr e ↦ subst (λ (s : Status). IsDueOrExcused words bytes before now sink_before sink_now s) (sym e) (inr asks)
     ]
 
 -- a status that comes after all bytes were read
-read-right : (words : List (List ℕ)) (before now : SourceState) (sink_before sink_now : SinkState) (xs : List ℕ) (status : Status) (replies : List Reply) → before.left ≡ Some xs → IsTrue (asks_for_run words) → ((bytes : List ℕ) × ReadsAll before now bytes × IsVerdict bytes status replies) → IsRight words xs before now sink_before sink_now status
+read-right : (words : List (List ℕ)) (before now : SourceState) (sink_before sink_now : SinkState) (xs : List ℕ) (status : Status) (replies : List Reply) → before.left ≡ Some xs → IsTrue (asks_for_run words) → ((bytes : List ℕ) × ReadsAll before now bytes × IsOutcomeOfBytes bytes status replies) → IsDueOrExcused words xs before now sink_before sink_now status
 read-right words before now sink_before sink_now xs status replies tells asks h =
     let same : xs ≡ h.0 = whole-told before.left now.left xs h.0 tells h.1.taken.front h.1.ended in
     let within : length xs ≤ script_limit = omega (arith, ap length same, h.1.within) in
     excused-right words xs before now sink_before sink_now status asks (due_status-run words xs asks within)
     (subst (λ (bytes : List ℕ). IsFair status (script_of bytes)) (sym same) (verdict-fair h.0 status replies h.2))
 
-due-right : (words : List (List ℕ)) (before now : SourceState) (sink_before sink_now : SinkState) (xs : List ℕ) (status : Status) (replies : List Reply) → before.left ≡ Some xs → IsDue words before now status replies → IsRight words xs before now sink_before sink_now status
+due-right : (words : List (List ℕ)) (before now : SourceState) (sink_before sink_now : SinkState) (xs : List ℕ) (status : Status) (replies : List Reply) → before.left ≡ Some xs → IsDue words before now status replies → IsDueOrExcused words xs before now sink_before sink_now status
 due-right words before now sink_before sink_now xs Usage replies tells h = inl (sym (due_status-usage words xs h.0))
-due-right words before now sink_before sink_now xs ReadFault replies tells h = inr (h.0, h.2)
+due-right words before now sink_before sink_now xs ReadFault replies tells h = inr (h.0, h.1.fault)
 due-right words before now sink_before sink_now xs TooLong replies tells h =
-    inl (sym (due_status-long words xs h.0 (omega (arith, h.1.2, front-told before.left now.left xs h.1.0 tells h.1.1.front))))
+    inl (sym (due_status-long words xs h.0 (omega (arith, h.1.past, front-told before.left now.left xs h.1.bytes tells h.1.taken.front))))
 due-right words before now sink_before sink_now xs NoMemory [] tells h = inr h.0
 due-right words before now sink_before sink_now xs NoMemory (reply ∷ replies) tells h = inr h.0
 due-right words before now sink_before sink_now xs Done replies tells h =
@@ -165,11 +165,11 @@ written-status before now text due Usage h = inr (h.1, h.0)
 written-status before now text due TooLong h = inr (h.1, h.0)
 written-status before now text due NotBuilt h = inr (h.1, h.0)
 
-right-told : (words : List (List ℕ)) (before now : SourceState) (sink_before sink_now : SinkState) (status : Status) (replies : List Reply) (xs : List ℕ) → before.left ≡ Some xs → EndsDue words before now sink_before sink_now status replies → IsRight words xs before now sink_before sink_now status
+right-told : (words : List (List ℕ)) (before now : SourceState) (sink_before sink_now : SinkState) (status : Status) (replies : List Reply) (xs : List ℕ) → before.left ≡ Some xs → EndsDue words before now sink_before sink_now status replies → IsDueOrExcused words xs before now sink_before sink_now status
 right-told words before now sink_before sink_now status replies xs tells h =
     elim (written-status sink_before sink_now (status_text h.0 replies) h.0 status h.2) [
-      | inl p ↦ subst (λ (s : Status). IsRight words xs before now sink_before sink_now s) (sym p.0) (inr p.1)
-      | inr p ↦ subst (λ (s : Status). IsRight words xs before now sink_before sink_now s) (sym p.0)
+      | inl p ↦ subst (λ (s : Status). IsDueOrExcused words xs before now sink_before sink_now s) (sym p.0) (inr p.1)
+      | inr p ↦ subst (λ (s : Status). IsDueOrExcused words xs before now sink_before sink_now s) (sym p.0)
           (due-right words before now sink_before sink_now xs h.0 replies tells h.1)
     ]
 
@@ -178,9 +178,9 @@ if-told : (left : Option (List ℕ)) (P : List ℕ → Type 0) → ((xs : List �
 if-told None P f = tt
 if-told (Some xs) P f = f xs refl
 
-pub EndsDue-right : (words : List (List ℕ)) (before now : SourceState) (sink_before sink_now : SinkState) (status : Status) (replies : List Reply) → EndsDue words before now sink_before sink_now status replies → IfSome before.left (λ bytes. IsRight words bytes before now sink_before sink_now status)
+pub EndsDue-right : (words : List (List ℕ)) (before now : SourceState) (sink_before sink_now : SinkState) (status : Status) (replies : List Reply) → EndsDue words before now sink_before sink_now status replies → IfSome before.left (λ bytes. IsDueOrExcused words bytes before now sink_before sink_now status)
 EndsDue-right words before now sink_before sink_now status replies h =
-    if-told before.left (λ bytes. IsRight words bytes before now sink_before sink_now status)
+    if-told before.left (λ bytes. IsDueOrExcused words bytes before now sink_before sink_now status)
     (λ xs tells. right-told words before now sink_before sink_now status replies xs tells h)
 
 -- ---- a run that is done
@@ -209,22 +209,3 @@ pub EndsDue-done : (words : List (List ℕ)) (before now : SourceState) (sink_be
 EndsDue-done words before now sink_before sink_now status replies h done =
     if-told before.left (λ bytes. AreRepliesTo bytes replies)
     (λ xs tells. done-told words before now replies xs tells (done-due words before now sink_before sink_now status replies done h).0)
-
--- ---- a valid script
-
-served-right : (words : List (List ℕ)) (bytes : List ℕ) (before now : SourceState) (sink_before sink_now : SinkState) (status : Status) → IsRight words bytes before now sink_before sink_now status → due_status words bytes ≡ Done → ¬ Rose before.faults now.faults → ¬ Rose sink_before.faults sink_now.faults → (status ≡ Done) ⊎ (status ≡ NoMemory)
-served-right words bytes before now sink_before sink_now status (inl e) served clean_source clean_sink = inl (e ∙ served)
-served-right words bytes before now sink_before sink_now Done (inr h) served clean_source clean_sink = absurd h
-served-right words bytes before now sink_before sink_now (BadScript number) (inr h) served clean_source clean_sink = absurd h
-served-right words bytes before now sink_before sink_now (NotCreated cause) (inr h) served clean_source clean_sink = absurd h
-served-right words bytes before now sink_before sink_now ReadFault (inr h) served clean_source clean_sink = absurd (clean_source h.1)
-served-right words bytes before now sink_before sink_now WriteFault (inr h) served clean_source clean_sink = absurd (clean_sink h)
-served-right words bytes before now sink_before sink_now NoMemory (inr h) served clean_source clean_sink = inr refl
-served-right words bytes before now sink_before sink_now Usage (inr h) served clean_source clean_sink = absurd h
-served-right words bytes before now sink_before sink_now TooLong (inr h) served clean_source clean_sink = absurd h
-served-right words bytes before now sink_before sink_now NotBuilt (inr h) served clean_source clean_sink = absurd h
-
-pub EndsDue-complete : (words : List (List ℕ)) (before now : SourceState) (sink_before sink_now : SinkState) (status : Status) (replies : List Reply) → EndsDue words before now sink_before sink_now status replies → IfSome before.left (λ bytes. due_status words bytes ≡ Done → ¬ Rose before.faults now.faults → ¬ Rose sink_before.faults sink_now.faults → (status ≡ Done) ⊎ (status ≡ NoMemory))
-EndsDue-complete words before now sink_before sink_now status replies h =
-    if-told before.left (λ bytes. due_status words bytes ≡ Done → ¬ Rose before.faults now.faults → ¬ Rose sink_before.faults sink_now.faults → (status ≡ Done) ⊎ (status ≡ NoMemory))
-    (λ xs tells. served-right words xs before now sink_before sink_now status (right-told words before now sink_before sink_now status replies xs tells h))

@@ -8,7 +8,7 @@ use Rattle.cal_alloc.specs.declared.allocation_strategy.AllocationStrategy.TheVa
 use Rattle.cal_transport.specs.declared.settings.Settings.{Settings}
 use Rattle.cal_program.specs.Words.{words, number_of}
 use Rattle.cal_program.specs.Script.{strategy_of, switch_of, small_number_of, settings_of_words, settings_named, settings_of}
-use Rattle.cal_program.specs.Spelling.{spaced, strategy_word, switch_word, settings_line, HasSettingsSpelling}
+use Rattle.cal_program.specs.Spelling.{spaced_words, strategy_word, switch_word, settings_line, HasSettingsSpelling}
 use Rattle.cal_program.proofs.SpellingLemmas.{maybe, bytes_eq-true, chosen, spaced-words, words-spaced, lacks_space, number-spelled, number-again, decimal-lacks}
 
 -- ---- the words that are no numbers
@@ -93,21 +93,21 @@ parts-from (Some a) (Some b) (Some c) (Some d) (Some e) (Some f) (Some g) (Some 
     (record { size_is = refl; alignment_is = refl; count_is = refl; strategy_is = refl; buffer_is = refl; borrow_is = refl; overflow_is = refl; samples_is = refl; segments_is = refl; channels_is = refl })
 
 -- ten words that are read spell the settings
-ten-spelled : (wa wb wc wd we wf wg wh wi wj : List ℕ) (s : Settings) → settings_from (number_of wa) (number_of wb) (number_of wc) (strategy_of wd) (number_of we) (number_of wf) (switch_of wg) (number_of wh) (small_number_of wi) (number_of wj) ≡ Some s → spaced (codes "transport" ∷ wa ∷ wb ∷ wc ∷ wd ∷ we ∷ wf ∷ wg ∷ wh ∷ wi ∷ wj ∷ []) ≡ settings_line s
+ten-spelled : (wa wb wc wd we wf wg wh wi wj : List ℕ) (s : Settings) → settings_from (number_of wa) (number_of wb) (number_of wc) (strategy_of wd) (number_of we) (number_of wf) (switch_of wg) (number_of wh) (small_number_of wi) (number_of wj) ≡ Some s → spaced_words (codes "transport" ∷ wa ∷ wb ∷ wc ∷ wd ∷ we ∷ wf ∷ wg ∷ wh ∷ wi ∷ wj ∷ []) ≡ settings_line s
 ten-spelled wa wb wc wd we wf wg wh wi wj s e' =
     let p = parts-from (number_of wa) (number_of wb) (number_of wc) (strategy_of wd) (number_of we) (number_of wf) (switch_of wg) (number_of wh) (small_number_of wi) (number_of wj) s e' in
-    ap (λ (w : List ℕ). spaced (codes "transport" ∷ w ∷ wb ∷ wc ∷ wd ∷ we ∷ wf ∷ wg ∷ wh ∷ wi ∷ wj ∷ [])) (number-spelled wa s.size p.size_is)
-    ∙ ap (λ (w : List ℕ). spaced (codes "transport" ∷ decimal s.size ∷ w ∷ wc ∷ wd ∷ we ∷ wf ∷ wg ∷ wh ∷ wi ∷ wj ∷ [])) (number-spelled wb s.alignment p.alignment_is)
-    ∙ ap (λ (w : List ℕ). spaced (codes "transport" ∷ decimal s.size ∷ decimal s.alignment ∷ w ∷ wd ∷ we ∷ wf ∷ wg ∷ wh ∷ wi ∷ wj ∷ [])) (number-spelled wc s.count p.count_is)
-    ∙ ap (λ (w : List ℕ). spaced (codes "transport" ∷ decimal s.size ∷ decimal s.alignment ∷ decimal s.count ∷ w ∷ we ∷ wf ∷ wg ∷ wh ∷ wi ∷ wj ∷ [])) (strategy-spelled wd s.strategy p.strategy_is)
-    ∙ ap (λ (w : List ℕ). spaced (codes "transport" ∷ decimal s.size ∷ decimal s.alignment ∷ decimal s.count ∷ strategy_word s.strategy ∷ w ∷ wf ∷ wg ∷ wh ∷ wi ∷ wj ∷ [])) (number-spelled we s.buffer p.buffer_is)
-    ∙ ap (λ (w : List ℕ). spaced (codes "transport" ∷ decimal s.size ∷ decimal s.alignment ∷ decimal s.count ∷ strategy_word s.strategy ∷ decimal s.buffer ∷ w ∷ wg ∷ wh ∷ wi ∷ wj ∷ [])) (number-spelled wf s.borrow p.borrow_is)
-    ∙ ap (λ (w : List ℕ). spaced (codes "transport" ∷ decimal s.size ∷ decimal s.alignment ∷ decimal s.count ∷ strategy_word s.strategy ∷ decimal s.buffer ∷ decimal s.borrow ∷ w ∷ wh ∷ wi ∷ wj ∷ [])) (switch-spelled wg s.overflow p.overflow_is)
-    ∙ ap (λ (w : List ℕ). spaced (codes "transport" ∷ decimal s.size ∷ decimal s.alignment ∷ decimal s.count ∷ strategy_word s.strategy ∷ decimal s.buffer ∷ decimal s.borrow ∷ switch_word s.overflow ∷ w ∷ wi ∷ wj ∷ [])) (number-spelled wh s.samples p.samples_is)
-    ∙ ap (λ (w : List ℕ). spaced (codes "transport" ∷ decimal s.size ∷ decimal s.alignment ∷ decimal s.count ∷ strategy_word s.strategy ∷ decimal s.buffer ∷ decimal s.borrow ∷ switch_word s.overflow ∷ decimal s.samples ∷ w ∷ wj ∷ [])) (small-spelled wi s.segments p.segments_is)
-    ∙ ap (λ (w : List ℕ). spaced (codes "transport" ∷ decimal s.size ∷ decimal s.alignment ∷ decimal s.count ∷ strategy_word s.strategy ∷ decimal s.buffer ∷ decimal s.borrow ∷ switch_word s.overflow ∷ decimal s.samples ∷ decimal s.segments ∷ w ∷ [])) (number-spelled wj s.channels p.channels_is)
+    ap (λ (w : List ℕ). spaced_words (codes "transport" ∷ w ∷ wb ∷ wc ∷ wd ∷ we ∷ wf ∷ wg ∷ wh ∷ wi ∷ wj ∷ [])) (number-spelled wa s.size p.size_is)
+    ∙ ap (λ (w : List ℕ). spaced_words (codes "transport" ∷ decimal s.size ∷ w ∷ wc ∷ wd ∷ we ∷ wf ∷ wg ∷ wh ∷ wi ∷ wj ∷ [])) (number-spelled wb s.alignment p.alignment_is)
+    ∙ ap (λ (w : List ℕ). spaced_words (codes "transport" ∷ decimal s.size ∷ decimal s.alignment ∷ w ∷ wd ∷ we ∷ wf ∷ wg ∷ wh ∷ wi ∷ wj ∷ [])) (number-spelled wc s.count p.count_is)
+    ∙ ap (λ (w : List ℕ). spaced_words (codes "transport" ∷ decimal s.size ∷ decimal s.alignment ∷ decimal s.count ∷ w ∷ we ∷ wf ∷ wg ∷ wh ∷ wi ∷ wj ∷ [])) (strategy-spelled wd s.strategy p.strategy_is)
+    ∙ ap (λ (w : List ℕ). spaced_words (codes "transport" ∷ decimal s.size ∷ decimal s.alignment ∷ decimal s.count ∷ strategy_word s.strategy ∷ w ∷ wf ∷ wg ∷ wh ∷ wi ∷ wj ∷ [])) (number-spelled we s.buffer p.buffer_is)
+    ∙ ap (λ (w : List ℕ). spaced_words (codes "transport" ∷ decimal s.size ∷ decimal s.alignment ∷ decimal s.count ∷ strategy_word s.strategy ∷ decimal s.buffer ∷ w ∷ wg ∷ wh ∷ wi ∷ wj ∷ [])) (number-spelled wf s.borrow p.borrow_is)
+    ∙ ap (λ (w : List ℕ). spaced_words (codes "transport" ∷ decimal s.size ∷ decimal s.alignment ∷ decimal s.count ∷ strategy_word s.strategy ∷ decimal s.buffer ∷ decimal s.borrow ∷ w ∷ wh ∷ wi ∷ wj ∷ [])) (switch-spelled wg s.overflow p.overflow_is)
+    ∙ ap (λ (w : List ℕ). spaced_words (codes "transport" ∷ decimal s.size ∷ decimal s.alignment ∷ decimal s.count ∷ strategy_word s.strategy ∷ decimal s.buffer ∷ decimal s.borrow ∷ switch_word s.overflow ∷ w ∷ wi ∷ wj ∷ [])) (number-spelled wh s.samples p.samples_is)
+    ∙ ap (λ (w : List ℕ). spaced_words (codes "transport" ∷ decimal s.size ∷ decimal s.alignment ∷ decimal s.count ∷ strategy_word s.strategy ∷ decimal s.buffer ∷ decimal s.borrow ∷ switch_word s.overflow ∷ decimal s.samples ∷ w ∷ wj ∷ [])) (small-spelled wi s.segments p.segments_is)
+    ∙ ap (λ (w : List ℕ). spaced_words (codes "transport" ∷ decimal s.size ∷ decimal s.alignment ∷ decimal s.count ∷ strategy_word s.strategy ∷ decimal s.buffer ∷ decimal s.borrow ∷ switch_word s.overflow ∷ decimal s.samples ∷ decimal s.segments ∷ w ∷ [])) (number-spelled wj s.channels p.channels_is)
 
-words-spelled : (others : List (List ℕ)) (s : Settings) → settings_of_words others ≡ Some s → spaced (codes "transport" ∷ others) ≡ settings_line s
+words-spelled : (others : List (List ℕ)) (s : Settings) → settings_of_words others ≡ Some s → spaced_words (codes "transport" ∷ others) ≡ settings_line s
 words-spelled [] s e' = absurd cc
 words-spelled (wa ∷ []) s e' = absurd cc
 words-spelled (wa ∷ wb ∷ []) s e' = absurd cc
@@ -121,11 +121,11 @@ words-spelled (wa ∷ wb ∷ wc ∷ wd ∷ we ∷ wf ∷ wg ∷ wh ∷ wi ∷ []
 words-spelled (wa ∷ wb ∷ wc ∷ wd ∷ we ∷ wf ∷ wg ∷ wh ∷ wi ∷ wj ∷ []) s e' = ten-spelled wa wb wc wd we wf wg wh wi wj s e'
 words-spelled (wa ∷ wb ∷ wc ∷ wd ∷ we ∷ wf ∷ wg ∷ wh ∷ wi ∷ wj ∷ other ∷ others) s e' = absurd cc
 
-named-spelled : (found : List (List ℕ)) (s : Settings) → settings_named found ≡ Some s → spaced found ≡ settings_line s
+named-spelled : (found : List (List ℕ)) (s : Settings) → settings_named found ≡ Some s → spaced_words found ≡ settings_line s
 named-spelled [] s e = absurd cc
 named-spelled (name ∷ others) s e =
     elim (chosen (bytes_eq name (codes "transport")) (settings_of_words others) None (Some s) e) [
-      | inl p ↦ ap (λ (w : List ℕ). spaced (w ∷ others)) (bytes_eq-true name (codes "transport") p.0) ∙ words-spelled others s p.1
+      | inl p ↦ ap (λ (w : List ℕ). spaced_words (w ∷ others)) (bytes_eq-true name (codes "transport") p.0) ∙ words-spelled others s p.1
       | inr q ↦ absurd cc
     ]
 

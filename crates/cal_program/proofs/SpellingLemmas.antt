@@ -15,17 +15,17 @@ use Rattle.cal_transport.specs.declared.command.Command.{Command}
 use Rattle.cal_transport.specs.declared.command.Command.TheVariants.{Loan, Write, Send, Receive, Read, Release, Reclaim, Discard, Count}
 use Rattle.cal_program.specs.Script.{loan_of, write_of, send_of, receive_of, read_of, release_of, reclaim_of, discard_of, count_of, command_named, command_of_words, command_of}
 use Rattle.cal_program.specs.Words.{onto_first, words, begins_well, number_of, hex_value, byte_of, bytes_of_letters, bytes_of}
-use Rattle.cal_program.specs.Spelling.{spaced, hex_letter, hex_pair, hex, command_line, HasSpelling}
+use Rattle.cal_program.specs.Spelling.{spaced_words, hex_letter, hex_pair, hex, command_line, HasSpelling}
 
 -- ---- words
 
 -- words that were cut, put together again
-onto-spaced : (byte : ℕ) (found : List (List ℕ)) → 0 < length found → spaced (onto_first byte found) ≡ byte ∷ spaced found
+onto-spaced : (byte : ℕ) (found : List (List ℕ)) → 0 < length found → spaced_words (onto_first byte found) ≡ byte ∷ spaced_words found
 onto-spaced byte [] h = absurd (omega arith)
 onto-spaced byte (word ∷ []) h = refl
 onto-spaced byte (word ∷ next ∷ others) h = refl
 
-empty-spaced : (found : List (List ℕ)) → 0 < length found → spaced ([] ∷ found) ≡ 32 ∷ spaced found
+empty-spaced : (found : List (List ℕ)) → 0 < length found → spaced_words ([] ∷ found) ≡ 32 ∷ spaced_words found
 empty-spaced [] h = absurd (omega arith)
 empty-spaced (word ∷ others) h = refl
 
@@ -41,13 +41,13 @@ words-some (byte ∷ bytes) =
       | false ↦ length-onto_first byte (words bytes)
     ]
 
-spaced-step : (byte : ℕ) (bytes : List ℕ) (b : Bool) → eqb byte 32 ≡ b → spaced (words bytes) ≡ bytes → spaced (words (byte ∷ bytes)) ≡ byte ∷ bytes
+spaced-step : (byte : ℕ) (bytes : List ℕ) (b : Bool) → eqb byte 32 ≡ b → spaced_words (words bytes) ≡ bytes → spaced_words (words (byte ∷ bytes)) ≡ byte ∷ bytes
 spaced-step byte bytes true e again =
     rw e (empty-spaced (words bytes) (words-some bytes) ∙ ap (λ (t : List ℕ). 32 ∷ t) again ∙ ap (λ (c : ℕ). c ∷ bytes) (sym (eqb-true byte 32 e)))
 spaced-step byte bytes false e again =
     rw e (onto-spaced byte (words bytes) (words-some bytes) ∙ ap (λ (t : List ℕ). byte ∷ t) again)
 
-pub spaced-words : (bytes : List ℕ) → spaced (words bytes) ≡ bytes
+pub spaced-words : (bytes : List ℕ) → spaced_words (words bytes) ≡ bytes
 spaced-words [] = refl
 spaced-words (byte ∷ bytes) = spaced-step byte bytes (eqb byte 32) refl (spaced-words bytes)
 
@@ -73,10 +73,10 @@ words-more (byte ∷ word) rest h =
     rw (not-true (eqb byte 32) parts.0, words-more word rest parts.1) refl
 
 -- words that were put together, cut again
-pub words-spaced : (word : List ℕ) (others : List (List ℕ)) → lacks_space word ≡ true → AllByRecursion (λ w. lacks_space w ≡ true) others → words (spaced (word ∷ others)) ≡ word ∷ others
+pub words-spaced : (word : List ℕ) (others : List (List ℕ)) → lacks_space word ≡ true → AllByRecursion (λ w. lacks_space w ≡ true) others → words (spaced_words (word ∷ others)) ≡ word ∷ others
 words-spaced word [] h each = words-one word h
 words-spaced word (next ∷ others) h each =
-    words-more word (spaced (next ∷ others)) h ∙ ap (λ (found : List (List ℕ)). word ∷ found) (words-spaced next others each.0 each.1)
+    words-more word (spaced_words (next ∷ others)) h ∙ ap (λ (found : List (List ℕ)). word ∷ found) (words-spaced next others each.0 each.1)
 
 -- ---- numbers
 
@@ -273,80 +273,80 @@ read-parts (Some x) (Some y) (Some z) None command e = absurd cc
 read-parts (Some x) (Some y) (Some z) (Some w) command e = (x, y, z, w, refl, refl, refl, refl, same_Some (Read x y z w) command e)
 
 -- the words after a name spell the rest of the command's line
-one-spelled : (name word : List ℕ) (f : ℕ → Command) (command : Command) → ((x : ℕ) → command_line (f x) ≡ spaced (name ∷ decimal x ∷ [])) → maybe (number_of word) (λ x. Some (f x)) ≡ Some command → spaced (name ∷ word ∷ []) ≡ command_line command
+one-spelled : (name word : List ℕ) (f : ℕ → Command) (command : Command) → ((x : ℕ) → command_line (f x) ≡ spaced_words (name ∷ decimal x ∷ [])) → maybe (number_of word) (λ x. Some (f x)) ≡ Some command → spaced_words (name ∷ word ∷ []) ≡ command_line command
 one-spelled name word f command line-is e =
     let p = one-parts (number_of word) f command e in
-    subst (λ (c : Command). spaced (name ∷ word ∷ []) ≡ command_line c) p.2
-    (ap (λ (w : List ℕ). spaced (name ∷ w ∷ [])) (number-spelled word p.0 p.1) ∙ sym (line-is p.0))
+    subst (λ (c : Command). spaced_words (name ∷ word ∷ []) ≡ command_line c) p.2
+    (ap (λ (w : List ℕ). spaced_words (name ∷ w ∷ [])) (number-spelled word p.0 p.1) ∙ sym (line-is p.0))
 
-two-spelled : (name word next : List ℕ) (f : ℕ → ℕ → Command) (command : Command) → ((x y : ℕ) → command_line (f x y) ≡ spaced (name ∷ decimal x ∷ decimal y ∷ [])) → maybe (number_of word) (λ x. maybe (number_of next) (λ y. Some (f x y))) ≡ Some command → spaced (name ∷ word ∷ next ∷ []) ≡ command_line command
+two-spelled : (name word next : List ℕ) (f : ℕ → ℕ → Command) (command : Command) → ((x y : ℕ) → command_line (f x y) ≡ spaced_words (name ∷ decimal x ∷ decimal y ∷ [])) → maybe (number_of word) (λ x. maybe (number_of next) (λ y. Some (f x y))) ≡ Some command → spaced_words (name ∷ word ∷ next ∷ []) ≡ command_line command
 two-spelled name word next f command line-is e =
     let p = two-parts (number_of word) (number_of next) f command e in
-    subst (λ (c : Command). spaced (name ∷ word ∷ next ∷ []) ≡ command_line c) p.4
-    (ap (λ (w : List ℕ). spaced (name ∷ w ∷ next ∷ [])) (number-spelled word p.0 p.2)
-    ∙ ap (λ (w : List ℕ). spaced (name ∷ decimal p.0 ∷ w ∷ [])) (number-spelled next p.1 p.3) ∙ sym (line-is p.0 p.1))
+    subst (λ (c : Command). spaced_words (name ∷ word ∷ next ∷ []) ≡ command_line c) p.4
+    (ap (λ (w : List ℕ). spaced_words (name ∷ w ∷ next ∷ [])) (number-spelled word p.0 p.2)
+    ∙ ap (λ (w : List ℕ). spaced_words (name ∷ decimal p.0 ∷ w ∷ [])) (number-spelled next p.1 p.3) ∙ sym (line-is p.0 p.1))
 
-loan-spelled : (others : List (List ℕ)) (command : Command) → loan_of others ≡ Some command → spaced (codes "loan" ∷ others) ≡ command_line command
+loan-spelled : (others : List (List ℕ)) (command : Command) → loan_of others ≡ Some command → spaced_words (codes "loan" ∷ others) ≡ command_line command
 loan-spelled [] command e = absurd cc
 loan-spelled (a ∷ []) command e = absurd cc
 loan-spelled (a ∷ b ∷ []) command e = two-spelled (codes "loan") a b Loan command (λ x y. refl) e
 loan-spelled (a ∷ b ∷ c ∷ others) command e = absurd cc
 
-send-spelled : (others : List (List ℕ)) (command : Command) → send_of others ≡ Some command → spaced (codes "send" ∷ others) ≡ command_line command
+send-spelled : (others : List (List ℕ)) (command : Command) → send_of others ≡ Some command → spaced_words (codes "send" ∷ others) ≡ command_line command
 send-spelled [] command e = absurd cc
 send-spelled (a ∷ []) command e = absurd cc
 send-spelled (a ∷ b ∷ []) command e = two-spelled (codes "send") a b Send command (λ x y. refl) e
 send-spelled (a ∷ b ∷ c ∷ others) command e = absurd cc
 
-release-spelled : (others : List (List ℕ)) (command : Command) → release_of others ≡ Some command → spaced (codes "release" ∷ others) ≡ command_line command
+release-spelled : (others : List (List ℕ)) (command : Command) → release_of others ≡ Some command → spaced_words (codes "release" ∷ others) ≡ command_line command
 release-spelled [] command e = absurd cc
 release-spelled (a ∷ []) command e = absurd cc
 release-spelled (a ∷ b ∷ []) command e = two-spelled (codes "release") a b Release command (λ x y. refl) e
 release-spelled (a ∷ b ∷ c ∷ others) command e = absurd cc
 
-receive-spelled : (others : List (List ℕ)) (command : Command) → receive_of others ≡ Some command → spaced (codes "receive" ∷ others) ≡ command_line command
+receive-spelled : (others : List (List ℕ)) (command : Command) → receive_of others ≡ Some command → spaced_words (codes "receive" ∷ others) ≡ command_line command
 receive-spelled [] command e = absurd cc
 receive-spelled (a ∷ []) command e = one-spelled (codes "receive") a Receive command (λ x. refl) e
 receive-spelled (a ∷ b ∷ others) command e = absurd cc
 
-reclaim-spelled : (others : List (List ℕ)) (command : Command) → reclaim_of others ≡ Some command → spaced (codes "reclaim" ∷ others) ≡ command_line command
+reclaim-spelled : (others : List (List ℕ)) (command : Command) → reclaim_of others ≡ Some command → spaced_words (codes "reclaim" ∷ others) ≡ command_line command
 reclaim-spelled [] command e = absurd cc
 reclaim-spelled (a ∷ []) command e = one-spelled (codes "reclaim") a Reclaim command (λ x. refl) e
 reclaim-spelled (a ∷ b ∷ others) command e = absurd cc
 
-discard-spelled : (others : List (List ℕ)) (command : Command) → discard_of others ≡ Some command → spaced (codes "discard" ∷ others) ≡ command_line command
+discard-spelled : (others : List (List ℕ)) (command : Command) → discard_of others ≡ Some command → spaced_words (codes "discard" ∷ others) ≡ command_line command
 discard-spelled [] command e = absurd cc
 discard-spelled (a ∷ []) command e = one-spelled (codes "discard") a Discard command (λ x. refl) e
 discard-spelled (a ∷ b ∷ others) command e = absurd cc
 
-count-spelled : (others : List (List ℕ)) (command : Command) → count_of others ≡ Some command → spaced (codes "count" ∷ others) ≡ command_line command
+count-spelled : (others : List (List ℕ)) (command : Command) → count_of others ≡ Some command → spaced_words (codes "count" ∷ others) ≡ command_line command
 count-spelled [] command e = ap command_line (same_Some Count command e)
 count-spelled (a ∷ others) command e = absurd cc
 
-write-spelled : (others : List (List ℕ)) (command : Command) → write_of others ≡ Some command → spaced (codes "write" ∷ others) ≡ command_line command
+write-spelled : (others : List (List ℕ)) (command : Command) → write_of others ≡ Some command → spaced_words (codes "write" ∷ others) ≡ command_line command
 write-spelled [] command e = absurd cc
 write-spelled (a ∷ []) command e = absurd cc
 write-spelled (a ∷ b ∷ []) command e = absurd cc
 write-spelled (a ∷ b ∷ c ∷ []) command e =
     let p = write-parts (number_of a) (number_of b) (bytes_of c) command e in
-    subst (λ (found : Command). spaced (codes "write" ∷ a ∷ b ∷ c ∷ []) ≡ command_line found) p.6
-    (ap (λ (w : List ℕ). spaced (codes "write" ∷ w ∷ b ∷ c ∷ [])) (number-spelled a p.0 p.3)
-    ∙ ap (λ (w : List ℕ). spaced (codes "write" ∷ decimal p.0 ∷ w ∷ c ∷ [])) (number-spelled b p.1 p.4)
-    ∙ ap (λ (w : List ℕ). spaced (codes "write" ∷ decimal p.0 ∷ decimal p.1 ∷ w ∷ [])) (bytes-spelled c p.2 p.5))
+    subst (λ (found : Command). spaced_words (codes "write" ∷ a ∷ b ∷ c ∷ []) ≡ command_line found) p.6
+    (ap (λ (w : List ℕ). spaced_words (codes "write" ∷ w ∷ b ∷ c ∷ [])) (number-spelled a p.0 p.3)
+    ∙ ap (λ (w : List ℕ). spaced_words (codes "write" ∷ decimal p.0 ∷ w ∷ c ∷ [])) (number-spelled b p.1 p.4)
+    ∙ ap (λ (w : List ℕ). spaced_words (codes "write" ∷ decimal p.0 ∷ decimal p.1 ∷ w ∷ [])) (bytes-spelled c p.2 p.5))
 write-spelled (a ∷ b ∷ c ∷ d ∷ others) command e = absurd cc
 
-read-spelled : (others : List (List ℕ)) (command : Command) → read_of others ≡ Some command → spaced (codes "read" ∷ others) ≡ command_line command
+read-spelled : (others : List (List ℕ)) (command : Command) → read_of others ≡ Some command → spaced_words (codes "read" ∷ others) ≡ command_line command
 read-spelled [] command e = absurd cc
 read-spelled (a ∷ []) command e = absurd cc
 read-spelled (a ∷ b ∷ []) command e = absurd cc
 read-spelled (a ∷ b ∷ c ∷ []) command e = absurd cc
 read-spelled (a ∷ b ∷ c ∷ d ∷ []) command e =
     let p = read-parts (number_of a) (number_of b) (number_of c) (number_of d) command e in
-    subst (λ (found : Command). spaced (codes "read" ∷ a ∷ b ∷ c ∷ d ∷ []) ≡ command_line found) p.8
-    (ap (λ (w : List ℕ). spaced (codes "read" ∷ w ∷ b ∷ c ∷ d ∷ [])) (number-spelled a p.0 p.4)
-    ∙ ap (λ (w : List ℕ). spaced (codes "read" ∷ decimal p.0 ∷ w ∷ c ∷ d ∷ [])) (number-spelled b p.1 p.5)
-    ∙ ap (λ (w : List ℕ). spaced (codes "read" ∷ decimal p.0 ∷ decimal p.1 ∷ w ∷ d ∷ [])) (number-spelled c p.2 p.6)
-    ∙ ap (λ (w : List ℕ). spaced (codes "read" ∷ decimal p.0 ∷ decimal p.1 ∷ decimal p.2 ∷ w ∷ [])) (number-spelled d p.3 p.7))
+    subst (λ (found : Command). spaced_words (codes "read" ∷ a ∷ b ∷ c ∷ d ∷ []) ≡ command_line found) p.8
+    (ap (λ (w : List ℕ). spaced_words (codes "read" ∷ w ∷ b ∷ c ∷ d ∷ [])) (number-spelled a p.0 p.4)
+    ∙ ap (λ (w : List ℕ). spaced_words (codes "read" ∷ decimal p.0 ∷ w ∷ c ∷ d ∷ [])) (number-spelled b p.1 p.5)
+    ∙ ap (λ (w : List ℕ). spaced_words (codes "read" ∷ decimal p.0 ∷ decimal p.1 ∷ w ∷ d ∷ [])) (number-spelled c p.2 p.6)
+    ∙ ap (λ (w : List ℕ). spaced_words (codes "read" ∷ decimal p.0 ∷ decimal p.1 ∷ decimal p.2 ∷ w ∷ [])) (number-spelled d p.3 p.7))
 read-spelled (a ∷ b ∷ c ∷ d ∷ other ∷ others) command e = absurd cc
 
 -- the first test that holds
@@ -355,18 +355,18 @@ chosen true x y z e = inl (refl, e)
 chosen false x y z e = inr e
 
 -- a name that is this text, and words that spell the rest
-named : (name text : List ℕ) (others : List (List ℕ)) (command : Command) → bytes_eq name text ≡ true → spaced (text ∷ others) ≡ command_line command → spaced (name ∷ others) ≡ command_line command
-named name text others command e h = ap (λ (w : List ℕ). spaced (w ∷ others)) (bytes_eq-true name text e) ∙ h
+named : (name text : List ℕ) (others : List (List ℕ)) (command : Command) → bytes_eq name text ≡ true → spaced_words (text ∷ others) ≡ command_line command → spaced_words (name ∷ others) ≡ command_line command
+named name text others command e h = ap (λ (w : List ℕ). spaced_words (w ∷ others)) (bytes_eq-true name text e) ∙ h
 
 -- one choice of the table of names
-choice : (name text : List ℕ) (others : List (List ℕ)) (here later : Option Command) (command : Command) → (here ≡ Some command → spaced (text ∷ others) ≡ command_line command) → (later ≡ Some command → spaced (name ∷ others) ≡ command_line command) → cond (bytes_eq name text) here later ≡ Some command → spaced (name ∷ others) ≡ command_line command
+choice : (name text : List ℕ) (others : List (List ℕ)) (here later : Option Command) (command : Command) → (here ≡ Some command → spaced_words (text ∷ others) ≡ command_line command) → (later ≡ Some command → spaced_words (name ∷ others) ≡ command_line command) → cond (bytes_eq name text) here later ≡ Some command → spaced_words (name ∷ others) ≡ command_line command
 choice name text others here later command spelled otherwise e =
     elim (chosen (bytes_eq name text) here later (Some command) e) [
       | inl p ↦ named name text others command p.0 (spelled p.1)
       | inr q ↦ otherwise q
     ]
 
-name-spelled : (name : List ℕ) (others : List (List ℕ)) (command : Command) → command_named name others ≡ Some command → spaced (name ∷ others) ≡ command_line command
+name-spelled : (name : List ℕ) (others : List (List ℕ)) (command : Command) → command_named name others ≡ Some command → spaced_words (name ∷ others) ≡ command_line command
 name-spelled name others command =
     choice name (codes "loan") others _ _ command (loan-spelled others command)
     (choice name (codes "write") others _ _ command (write-spelled others command)
@@ -379,7 +379,7 @@ name-spelled name others command =
     (choice name (codes "count") others _ _ command (count-spelled others command)
     (λ e. absurd (none-some command e))))))))))
 
-found-spelled : (found : List (List ℕ)) (command : Command) → command_of_words found ≡ Some command → spaced found ≡ command_line command
+found-spelled : (found : List (List ℕ)) (command : Command) → command_of_words found ≡ Some command → spaced_words found ≡ command_line command
 found-spelled [] command e = absurd cc
 found-spelled (name ∷ others) command e = name-spelled name others command e
 
@@ -387,7 +387,7 @@ pub command-spelled : (line : List ℕ) (command : Command) → command_of line 
 command-spelled line command e = sym (spaced-words line) ∙ found-spelled (words line) command e
 
 -- the words of a command's line are those that were put together
-line-again : (name : List ℕ) (others : List (List ℕ)) (line : List ℕ) (command : Command) → line ≡ spaced (name ∷ others) → lacks_space name ≡ true → AllByRecursion (λ w. lacks_space w ≡ true) others → command_named name others ≡ Some command → command_of line ≡ Some command
+line-again : (name : List ℕ) (others : List (List ℕ)) (line : List ℕ) (command : Command) → line ≡ spaced_words (name ∷ others) → lacks_space name ≡ true → AllByRecursion (λ w. lacks_space w ≡ true) others → command_named name others ≡ Some command → command_of line ≡ Some command
 line-again name others line command is lacks each e =
     ap command_of is ∙ ap command_of_words (words-spaced name others lacks each) ∙ e
 

@@ -25,6 +25,12 @@ lines = pieces 10 []
 abbrev pub words : List ℕ → List (List ℕ)
 words = pieces 32 ([] ∷ [])
 
+-- the text is the one word
+abbrev pub is_only_word : List ℕ → List (List ℕ) → Bool
+is_only_word text [] = false
+is_only_word text (word ∷ []) = bytes_eq word text
+is_only_word text (word ∷ next ∷ words) = false
+
 -- ---- numbers
 
 -- a zero begins no longer number

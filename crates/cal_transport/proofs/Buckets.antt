@@ -11,9 +11,10 @@ use Rattle.cal_alloc.specs.SizeAndAlignment.{SizeAndAlignment}
 use Rattle.cal_alloc.specs.declared.shm_allocator.ShmAllocationError.{ShmAllocationError}
 use Rattle.cal_alloc.specs.declared.shm_allocator.ShmAllocationError.TheVariants as error
 use Rattle.cal_transport.specs.declared.reply.Refusal.TheVariants.{ExceedsMaxSupportedAlignment, SizeTooLarge, OutOfMemory}
-use Rattle.cal_transport.specs.Ledger.{Chunk, is_live, is_free, has_free_bucket, numbers_below, is_in_transit}
-use Rattle.cal_transport.specs.Cause.{static_cause, serves, is_full}
-use Rattle.cal_transport.specs.Parts.{Parts, Shown, Show, ledger_of, lives}
+use Rattle.cal_transport.specs.Ledger.{Chunk, is_live, is_free, numbers_below, is_in_transit}
+use Rattle.cal_transport.specs.LoanCause.{static_cause, serves}
+use Rattle.cal_transport.specs.Cause.{is_full, current_segment}
+use Rattle.cal_transport.specs.Parts.{Parts, LedgerRest, AgreesWith, ledger_of, is_live_on}
 use Rattle.cal_transport.specs.Rules.{refusal_of, IsPools}
 
 -- ---- lists
@@ -70,7 +71,7 @@ all_set (false ∷ marks) k e below = absurd (true≢false (sym e))
 
 -- ---- free buckets
 
-live_is : (p : Parts) (w : Shown) (chunk : Chunk) → is_live (ledger_of p w) chunk ≡ lives w.channel chunk
+live_is : (p : Parts) (w : LedgerRest) (chunk : Chunk) → is_live (ledger_of p w) chunk ≡ is_live_on w.channel chunk
 live_is p w chunk = go chunk.loaned (is_in_transit w.channel chunk.name)
   where
     go : (a b : Bool) → (a || (b || false)) ≡ (a || b)
@@ -78,7 +79,7 @@ live_is p w chunk = go chunk.loaned (is_in_transit w.channel chunk.name)
     go false true = refl
     go false false = refl
 
-pub free_is : (p : Parts) (w : Shown) (bucket : ℕ) → Show p w → is_free (ledger_of p w) 0 bucket ≡ not (is_used p.pool bucket)
+pub free_is : (p : Parts) (w : LedgerRest) (bucket : ℕ) → AgreesWith p w → is_free (ledger_of p w) 0 bucket ≡ not (is_used p.pool bucket)
 free_is p w bucket h = go (is_used p.pool bucket) refl
   where
     go : (b : Bool) → is_used p.pool bucket ≡ b → is_free (ledger_of p w) 0 bucket ≡ not (is_used p.pool bucket)
@@ -95,7 +96,7 @@ free_is p w bucket h = go (is_used p.pool bucket) refl
         grind (arith, nat_tests))))
         ∙ ap not (sym free)
 
-pub full_is : (p : Parts) (w : Shown) → Show p w → is_full (ledger_of p w) ≡ pool.is_full p.pool
+pub full_is : (p : Parts) (w : LedgerRest) → AgreesWith p w → is_full (ledger_of p w) ≡ pool.is_full p.pool
 full_is p w h = go (pool.is_full p.pool) refl
   where
     go : (b : Bool) → pool.is_full p.pool ≡ b → is_full (ledger_of p w) ≡ pool.is_full p.pool
@@ -107,8 +108,8 @@ full_is p w h = go (pool.is_full p.pool) refl
 
 -- ---- the refusals of a static memory
 
-pub static_cause_is : (p : Parts) (w : Shown) (layout : SizeAndAlignment) → Show p w →
-    static_cause (ledger_of p w) layout.size layout.alignment ≡ option_map refusal_of (pool_refusal p.pool layout)
+pub static_cause_is : (p : Parts) (w : LedgerRest) (layout : SizeAndAlignment) → AgreesWith p w →
+    static_cause (current_segment (ledger_of p w)) layout.size layout.alignment ≡ option_map refusal_of (pool_refusal p.pool layout)
 static_cause_is p w layout h =
     ap (λ b. cond (nat_lt p.pool.buckets.alignment layout.alignment) (Some ExceedsMaxSupportedAlignment)
     (cond (nat_lt p.pool.buckets.size layout.size) (Some SizeTooLarge) (cond b (Some OutOfMemory) None))) (full_is p w h)
@@ -148,17 +149,17 @@ serves_layout p layout q = go (nat_lt p.buckets.alignment layout.alignment) (nat
     go false false true x y z q = absurd (none-some error.OutOfMemory q)
 
 -- the current segment then serves the loan, so that none is made
-pub serves_is : (p : Parts) (w : Shown) (layout : SizeAndAlignment) → Show p w → ServesLayout p.pool layout →
-    serves (ledger_of p w) layout.size layout.alignment ≡ true
+pub serves_is : (p : Parts) (w : LedgerRest) (layout : SizeAndAlignment) → AgreesWith p w → ServesLayout p.pool layout →
+    serves (current_segment (ledger_of p w)) layout.size layout.alignment ≡ true
 serves_is p w layout h s =
-    let full : not (has_free_bucket (ledger_of p w) 0) ≡ false = full_is p w h ∙ s.room in
+    let room : is_full (ledger_of p w) ≡ false = full_is p w h ∙ s.room in
     let a = s.alignment in let b = s.size in
     let c : nat_le layout.size p.pool.buckets.size ≡ true = grind (arith, nat_tests) in
     let d : nat_le layout.alignment p.pool.buckets.alignment ≡ true = grind (arith, nat_tests) in
-    go (has_free_bucket (ledger_of p w) 0) (nat_le layout.size p.pool.buckets.size) (nat_le layout.alignment p.pool.buckets.alignment) full c d
+    go (is_full (ledger_of p w)) (nat_le layout.size p.pool.buckets.size) (nat_le layout.alignment p.pool.buckets.alignment) room c d
   where
-    go : (a b c : Bool) → not a ≡ false → b ≡ true → c ≡ true → (a && (b && c)) ≡ true
-    go true true true x y z = refl
-    go false b c x y z = absurd (true≢false x)
-    go true false c x y z = absurd (true≢false (sym y))
-    go true true false x y z = absurd (true≢false (sym z))
+    go : (a b c : Bool) → a ≡ false → b ≡ true → c ≡ true → (not a && (b && c)) ≡ true
+    go false true true x y z = refl
+    go true b c x y z = absurd (true≢false x)
+    go false false c x y z = absurd (true≢false (sym y))
+    go false true false x y z = absurd (true≢false (sym z))

@@ -8,20 +8,20 @@ use Rattle.std.proofs.lemmas.List.{append-nil, map-append, get_or_past}
 use Rattle.std.proofs.lemmas.Grind.{flat_map-append}
 use Rattle.cal_alloc.specs.Pool.{is_used}
 use Rattle.cal_queue.specs.UsedChunks.{UsedChunks, contains}
-use Rattle.cal_transport.specs.declared.entry.Entry.{Entry}
+use Rattle.cal_transport.specs.declared.chunk_record.ChunkRecord.{ChunkRecord}
 use Rattle.cal_transport.specs.declared.reply.Reply.{Reply}
 use Rattle.cal_transport.specs.declared.reply.Reply.TheVariants.{Transit}
-use Rattle.cal_transport.specs.Ledger.{Ledger, Chunk, numbers_below, is_in_transit, buckets_at}
+use Rattle.cal_transport.specs.Ledger.{Ledger, Chunk, numbers_below, is_in_transit, layout_at}
 use Rattle.cal_transport.specs.Step.{slot_of}
 use Rattle.cal_transport.specs.Run.{transit_at, transit_list}
-use Rattle.cal_transport.specs.Transit.{transit_reply, owner_of, reply_of, LeadUsed}
-use Rattle.cal_transport.specs.Parts.{Parts, Shown, Show, StandsFor, ledger_of, entry_of, lives, weight}
+use Rattle.cal_transport.specs.Transit.{transit_reply, record_of_index, reply_of, LeadUsed}
+use Rattle.cal_transport.specs.Parts.{Parts, LedgerRest, AgreesWith, Represents, ledger_of, record_of, is_live_on, weight}
 use Rattle.cal_transport.proofs.Names.{is_in_transit-weight}
-use Rattle.cal_transport.proofs.Update.{entry_at, transit_lives, bucket_within, buckets_apart}
+use Rattle.cal_transport.proofs.Update.{record_at, transit_lives, bucket_within, buckets_apart}
 
 -- the chunks of the buckets below this one are listed, and there is room for those of the others
-pub record Listed (used : UsedChunks) (entries : List Entry) (owners : List ℕ) (size bucket limit : ℕ) (before now : List Reply) (spare : ℕ) : Type 0 where
-  pub listed : now ≡ before ++ flat_map (transit_reply used entries owners size) (numbers_below bucket)
+pub record Listed (used : UsedChunks) (records : List ChunkRecord) (record_indices : List ℕ) (size bucket limit : ℕ) (before now : List Reply) (spare : ℕ) : Type 0 where
+  pub listed : now ≡ before ++ flat_map (transit_reply used records record_indices size) (numbers_below bucket)
   pub room : limit ≤ spare + bucket
 
 -- ---- lists
@@ -67,18 +67,18 @@ flat_map_cut f (suc n) m none = elim (cases_lt n m) [
 -- ---- used buckets
 
 -- a used bucket has a live chunk, which is in transit
-record IsMoving (p : Parts) (w : Shown) (bucket : ℕ) : Type 0 where
+record IsMoving (p : Parts) (w : LedgerRest) (bucket : ℕ) : Type 0 where
   pub index : ℕ
   pub chunk : Chunk
   pub stands : slice_get w.chunks index ≡ Some chunk
   pub there : chunk.bucket ≡ bucket
   pub moves : is_in_transit w.channel chunk.name ≡ true
-  pub owner : slice_get p.owners bucket ≡ Some index
+  pub owner : slice_get p.record_indices bucket ≡ Some index
 
-past_unused : (p : Parts) (w : Shown) (bucket : ℕ) → Show p w → p.settings.samples ≤ bucket → contains p.used bucket ≡ false
+past_unused : (p : Parts) (w : LedgerRest) (bucket : ℕ) → AgreesWith p w → p.settings.samples ≤ bucket → contains p.used bucket ≡ false
 past_unused p w bucket h past = get_or_past p.used.marks bucket false (let e = h.ready.used in omega arith)
 
-moving : (p : Parts) (w : Shown) (bucket : ℕ) → Show p w → contains p.used bucket ≡ true → IsMoving p w bucket
+moving : (p : Parts) (w : LedgerRest) (bucket : ℕ) → AgreesWith p w → contains p.used bucket ≡ true → IsMoving p w bucket
 moving p w bucket h used = go (is_used p.pool bucket) refl (cases_lt bucket p.settings.samples)
   where
     go : (b : Bool) → is_used p.pool bucket ≡ b → ((bucket < p.settings.samples) ⊎ (p.settings.samples ≤ bucket)) → IsMoving p w bucket
@@ -93,28 +93,28 @@ moving p w bucket h used = go (is_used p.pool bucket) refl (cases_lt bucket p.se
           stands = o.stands;
           there = o.there;
           moves = sym (housed.in_use (let t = o.there in omega arith)) ∙ ap (contains p.used) o.there ∙ used;
-          owner = ap (slice_get p.owners) (sym o.there) ∙ housed.owner;
+          owner = ap (slice_get p.record_indices) (sym o.there) ∙ housed.owner;
         }
 
 -- what the code asks: used buckets lead to entries
-pub used_lead : (p : Parts) (w : Shown) → Show p w → LeadUsed p.used p.entries p.owners (min p.pool.buckets.count p.settings.samples)
+pub used_lead : (p : Parts) (w : LedgerRest) → AgreesWith p w → LeadUsed p.used p.records p.record_indices (min p.pool.buckets.count p.settings.samples)
 used_lead p w h = record {
   capacity = (let e = h.ready.used in omega arith);
   leads = λ bucket below used. (let m = moving p w bucket h used in record {
     index = m.index;
-    entry = entry_of w.channel m.chunk;
+    entry = record_of w.channel m.chunk;
     owner = m.owner;
-    stands = entry_at p w m.index m.chunk h m.stands;
+    stands = record_at p w m.index m.chunk h m.stands;
   });
 }
 
 -- whether a chunk is one in transit in this bucket
-abbrev is_at : Parts → Shown → ℕ → Chunk → Bool
+abbrev is_at : Parts → LedgerRest → ℕ → Chunk → Bool
 is_at p w bucket chunk = nat_eq chunk.segment 0 && nat_eq chunk.bucket bucket && is_in_transit w.channel chunk.name
 
 -- a chunk in transit marks its bucket as used
-marks_used : (p : Parts) (w : Shown) (i : ℕ) (chunk : Chunk) → Show p w → slice_get w.chunks i ≡ Some chunk → is_in_transit w.channel chunk.name ≡ true →
-    (contains p.used chunk.bucket ≡ true) × (lives w.channel chunk ≡ true)
+marks_used : (p : Parts) (w : LedgerRest) (i : ℕ) (chunk : Chunk) → AgreesWith p w → slice_get w.chunks i ≡ Some chunk → is_in_transit w.channel chunk.name ≡ true →
+    (contains p.used chunk.bucket ≡ true) × (is_live_on w.channel chunk ≡ true)
 marks_used p w i chunk h stands moves =
     let heavy : 0 < weight w.channel chunk.name = (let e = sym (is_in_transit-weight w.channel chunk.name) ∙ moves in grind (arith, nat_tests)) in
     let alive = transit_lives w.channel chunk heavy in
@@ -130,14 +130,14 @@ and3_false false b c never = refl
 same_number : (a b : ℕ) → nat_eq a b ≡ true → a ≡ b
 same_number a b e = grind (arith, nat_tests)
 
-none_told : (p : Parts) (w : Shown) (bucket : ℕ) → Show p w → contains p.used bucket ≡ false →
+none_told : (p : Parts) (w : LedgerRest) (bucket : ℕ) → AgreesWith p w → contains p.used bucket ≡ false →
     (i : ℕ) (x : Chunk) → slice_get w.chunks i ≡ Some x → is_at p w bucket x ≡ false
 none_told p w bucket h unused i x e =
     and3_false (nat_eq x.segment 0) (nat_eq x.bucket bucket) (is_in_transit w.channel x.name) (λ a b c.
     true≢false (sym (marks_used p w i x h e c).0 ∙ ap (contains p.used) (same_number x.bucket bucket b) ∙ unused))
 
 -- only the bucket's own chunk is there
-others_elsewhere : (p : Parts) (w : Shown) (bucket : ℕ) → Show p w → (m : IsMoving p w bucket) →
+others_elsewhere : (p : Parts) (w : LedgerRest) (bucket : ℕ) → AgreesWith p w → (m : IsMoving p w bucket) →
     (j : ℕ) (y : Chunk) → slice_get w.chunks j ≡ Some y → j ≢ m.index → is_at p w bucket y ≡ false
 others_elsewhere p w bucket h m j y e apart =
     and3_false (nat_eq y.segment 0) (nat_eq y.bucket bucket) (is_in_transit w.channel y.name) (λ a b c.
@@ -145,43 +145,43 @@ others_elsewhere p w bucket h m j y e apart =
     let other = (marks_used p w j y h e c).1 in
     buckets_apart p w j m.index y m.chunk h e m.stands other mine apart (same_number y.bucket bucket b ∙ sym m.there)))
 
-bucket_told : (p : Parts) (w : Shown) (bucket : ℕ) → Show p w →
-    map (λ chunk. Transit 0 (slot_of (ledger_of p w) chunk)) (transit_at (ledger_of p w) 0 0 bucket) ≡ transit_reply p.used p.entries p.owners p.pool.buckets.size bucket
+bucket_told : (p : Parts) (w : LedgerRest) (bucket : ℕ) → AgreesWith p w →
+    map (λ chunk. Transit 0 (slot_of (ledger_of p w) chunk)) (transit_at (ledger_of p w) 0 0 bucket) ≡ transit_reply p.used p.records p.record_indices p.pool.buckets.size bucket
 bucket_told p w bucket h = go (contains p.used bucket) refl
   where
     go : (b : Bool) → contains p.used bucket ≡ b →
-        map (λ chunk. Transit 0 (slot_of (ledger_of p w) chunk)) (transit_at (ledger_of p w) 0 0 bucket) ≡ transit_reply p.used p.entries p.owners p.pool.buckets.size bucket
+        map (λ chunk. Transit 0 (slot_of (ledger_of p w) chunk)) (transit_at (ledger_of p w) 0 0 bucket) ≡ transit_reply p.used p.records p.record_indices p.pool.buckets.size bucket
     go false unused =
         ap (map (λ chunk. Transit 0 (slot_of (ledger_of p w) chunk))) (filter_none (is_at p w bucket) w.chunks (none_told p w bucket h unused))
-        ∙ sym (ap (λ b. cond b (reply_of (owner_of p.entries (slice_get p.owners bucket)) (bucket * p.pool.buckets.size)) []) unused)
+        ∙ sym (ap (λ b. cond b (reply_of (record_of_index p.records (slice_get p.record_indices bucket)) (bucket * p.pool.buckets.size)) []) unused)
     go true used =
         let m = moving p w bucket h used in
         let segment = (h.placed m.index m.chunk m.stands).segment in
         let there = m.there in let moves = m.moves in
         let here : is_at p w bucket m.chunk ≡ true = grind (arith, nat_tests) in
-        let T : ℕ → ℕ → List Reply = λ seg b. Transit 0 (record { chunk = m.chunk.name; segment = seg; place = b * (buckets_at (ledger_of p w) seg).size }) ∷ [] in
+        let T : ℕ → ℕ → List Reply = λ seg b. Transit 0 (record { chunk = m.chunk.name; segment = seg; place = b * (layout_at (ledger_of p w) seg).size }) ∷ [] in
         ap (map (λ chunk. Transit 0 (slot_of (ledger_of p w) chunk)))
         (filter_one (is_at p w bucket) w.chunks m.index m.chunk m.stands here (others_elsewhere p w bucket h m))
         ∙ ap (λ seg. T seg m.chunk.bucket) segment
         ∙ ap (T 0) there
-        ∙ sym (ap (λ o. reply_of o (bucket * p.pool.buckets.size)) (entry_at p w m.index m.chunk h m.stands))
-        ∙ sym (ap (λ o. reply_of (owner_of p.entries o) (bucket * p.pool.buckets.size)) m.owner)
-        ∙ sym (ap (λ b. cond b (reply_of (owner_of p.entries (slice_get p.owners bucket)) (bucket * p.pool.buckets.size)) []) used)
+        ∙ sym (ap (λ o. reply_of o (bucket * p.pool.buckets.size)) (record_at p w m.index m.chunk h m.stands))
+        ∙ sym (ap (λ o. reply_of (record_of_index p.records o) (bucket * p.pool.buckets.size)) m.owner)
+        ∙ sym (ap (λ b. cond b (reply_of (record_of_index p.records (slice_get p.record_indices bucket)) (bucket * p.pool.buckets.size)) []) used)
 
 -- the walk lists the chunks in transit
-pub walk_is : (p : Parts) (w : Shown) → Show p w →
-    flat_map (transit_reply p.used p.entries p.owners p.pool.buckets.size) (numbers_below (min p.pool.buckets.count p.settings.samples)) ≡ transit_list (ledger_of p w)
+pub walk_is : (p : Parts) (w : LedgerRest) → AgreesWith p w →
+    flat_map (transit_reply p.used p.records p.record_indices p.pool.buckets.size) (numbers_below (min p.pool.buckets.count p.settings.samples)) ≡ transit_list (ledger_of p w)
 walk_is p w h =
-    let R : ℕ → List Reply = transit_reply p.used p.entries p.owners p.pool.buckets.size in
+    let R : ℕ → List Reply = transit_reply p.used p.records p.record_indices p.pool.buckets.size in
     let T : Chunk → Reply = λ chunk. Transit 0 (slot_of (ledger_of p w) chunk) in
     sym (flat_map_cut R p.pool.buckets.count p.settings.samples (λ k past.
-    ap (λ b. cond b (reply_of (owner_of p.entries (slice_get p.owners k)) (k * p.pool.buckets.size)) []) (past_unused p w k h past)))
+    ap (λ b. cond b (reply_of (record_of_index p.records (slice_get p.record_indices k)) (k * p.pool.buckets.size)) []) (past_unused p w k h past)))
     ∙ sym (flat_map_below (λ k. map T (transit_at (ledger_of p w) 0 0 k)) R p.pool.buckets.count (λ k below. bucket_told p w k h))
     ∙ sym (map-flat_map T (transit_at (ledger_of p w) 0 0) (numbers_below p.pool.buckets.count))
     ∙ sym (ap (map T) (append-nil (flat_map (transit_at (ledger_of p w) 0 0) (numbers_below p.pool.buckets.count))))
     ∙ sym (append-nil (map T (flat_map (transit_at (ledger_of p w) 0 0) (numbers_below p.pool.buckets.count) ++ [])))
 
 -- whichever ledger the parts stand for, the walk lists what it has in transit
-pub transit_is : (p : Parts) (before after : List Reply) → after ≡ before ++ flat_map (transit_reply p.used p.entries p.owners p.pool.buckets.size) (numbers_below (min p.pool.buckets.count p.settings.samples)) →
-    (l : Ledger) → StandsFor p l → after ≡ before ++ transit_list l
-transit_is p before after e l s = e ∙ ap (λ rs. before ++ rs) (walk_is p s.shown s.show ∙ ap transit_list (sym s.made))
+pub transit_is : (p : Parts) (before after_step : List Reply) → after_step ≡ before ++ flat_map (transit_reply p.used p.records p.record_indices p.pool.buckets.size) (numbers_below (min p.pool.buckets.count p.settings.samples)) →
+    (l : Ledger) → Represents p l → after_step ≡ before ++ transit_list l
+transit_is p before after_step e l s = e ∙ ap (λ rs. before ++ rs) (walk_is p s.rest s.show ∙ ap transit_list (sym s.made))

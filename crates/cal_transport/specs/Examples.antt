@@ -292,7 +292,7 @@ LastSegmentRefuses = cause crowded_ledger (Loan 16 8) ≡ Some MaxReallocationsR
 abbrev pub GivenBackOnce : Type 0
 GivenBackOnce = cause
     (record (first_ledger (static_settings 1 1 1)) {
-      channels = record { sent = 1 ∷ 1 ∷ []; left = []; released = []; reclaimed = [] } ∷ [];
+      histories = record { sent = 1 ∷ 1 ∷ []; departures = []; released = []; reclaimed = [] } ∷ [];
     })
     (Release 0 1) ≡ Some NotBorrowed
 

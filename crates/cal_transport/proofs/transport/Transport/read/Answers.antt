@@ -1,5 +1,5 @@
 use Rattle.std.proofs.Common.{◌≡◌, ◌+◌, ◌-◌, ◌*◌, ◌<◌, take, drop, sym, ap, ◌∙◌, subst, arith}
-use Rattle.cal_transport.specs.Entry.{IsUnnamed, IsFound}
+use Rattle.cal_transport.specs.ChunkRecord.{HasNoRecord, IsFound}
 use Rattle.cal_transport.specs.PartsOf.{parts_of}
 use Rattle.cal_transport.specs.Rules.{read_rule}
 use Rattle.cal_transport.proofs.Steps.{entry_within}
@@ -7,12 +7,12 @@ use Rattle.cal_transport.proofs.Reading.{read_unnamed, read_refused, read_of, ma
 use Rattle.cal_transport.proofs.transport.Transport.read.Goals as goal
 
 pub returns-in_default : goal.returns-in_default
-returns-in_default c = record { step = read_unnamed c.args.self.now c.args.channel c.args.chunk c.args.at c.args.length (subst (λ p. c.args.channel < p.settings.channels) c.self.view_is (let t : c.args.channel < c.self.inside.settings.channels = omega arith in t)) (subst (λ es. IsUnnamed es c.args.chunk) (c.deref.ensures.value ∙ ap (λ p. p.entries) c.self.view_is) c.in_default.ensures.found) }
+returns-in_default c = record { step = read_unnamed c.args.self.now c.args.channel c.args.chunk c.args.at c.args.length (subst (λ p. c.args.channel < p.settings.channels) c.self.view_is (let t : c.args.channel < c.self.inside.settings.channels = omega arith in t)) (subst (λ es. HasNoRecord es c.args.chunk) (c.deref.ensures.value ∙ ap (λ p. p.records) c.self.view_is) c.in_default.ensures.found) }
 
 pub returns-in-Some-read_refusal : goal.returns-in-Some-read_refusal
 returns-in-Some-read_refusal c = record {
   step = read_refused c.args.self.now c.args.channel c.args.chunk c.args.at c.args.length c.in-Some.found c.in-Some-read_refusal.refusal (subst (λ p. c.args.channel < p.settings.channels) c.self.view_is (let t : c.args.channel < c.self.inside.settings.channels = omega arith in t))
-      (subst (λ es. IsFound es c.args.chunk c.in-Some.found) (c.deref.ensures.value ∙ ap (λ p. p.entries) c.self.view_is) c.in-Some.ensures.found)
+      (subst (λ es. IsFound es c.args.chunk c.in-Some.found) (c.deref.ensures.value ∙ ap (λ p. p.records) c.self.view_is) c.in-Some.ensures.found)
       (sym c.in-Some-read_refusal.ensures.rule);
 }
 
@@ -47,7 +47,7 @@ slice_bounds-result-end c =
 pub returns : goal.returns
 returns c = record {
   step = read_of c.args.self.now c.args.channel c.args.chunk c.args.at c.args.length c.in-Some.found _ (subst (λ p. c.args.channel < p.settings.channels) c.self.view_is (let t : c.args.channel < c.self.inside.settings.channels = omega arith in t))
-      (subst (λ es. IsFound es c.args.chunk c.in-Some.found) (c.deref.ensures.value ∙ ap (λ p. p.entries) c.self.view_is) c.in-Some.ensures.found)
+      (subst (λ es. IsFound es c.args.chunk c.in-Some.found) (c.deref.ensures.value ∙ ap (λ p. p.records) c.self.view_is) c.in-Some.ensures.found)
       c.in_default-read_refusal.ensures.rule
       (let long : c.in-Some.found.entry.bucket * c.bucket_size.result + c.args.at + c.args.length - (c.in-Some.found.entry.bucket * c.bucket_size.result + c.args.at) ≡ c.args.length = omega arith in
       ap (λ n. take n (drop (c.in-Some.found.entry.bucket * c.bucket_size.result + c.args.at) c.deref-2.result.now)) long
