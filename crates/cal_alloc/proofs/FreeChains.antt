@@ -15,7 +15,8 @@ use Rattle.cal_alloc.proofs.Marks.{list_all-counted, counted-list_all, counted-l
 
 -- ---- there is a mark for each bucket, and the number of used ones is kept
 
-pub marks-length : (a : Inside) (next : Option (Vec ℕ Global)) → IsChainedBy a next → length (marks_by a next) ≡ a.number_of_buckets
+pub marks-length : (a : Inside) (next : Option (Vec ℕ Global)) → IsChainedBy a next →
+    length (marks_by a next) ≡ a.number_of_buckets
 marks-length a None chained = length-replicate a.number_of_buckets false
 marks-length a (Some next) chained =
     length-freed (first_used (length next.items) a.number_of_buckets) (free_chain a next.items)
@@ -72,7 +73,8 @@ pub record IsOpen (a : Inside) (next : Vec ℕ Global) (marks : BucketMarks) : T
   pub is_ready : marks.is_ready ≡ true
   pub used : marks.used ≡ freed (first_used (length next.items) a.number_of_buckets) (free_chain a next.items)
 
-pub opened : (a : Inside) (next : Vec ℕ Global) (marks : BucketMarks) → IsChained a → marks_of a ≡ marks → a.next ≡ Some next →
+pub opened : (a : Inside) (next : Vec ℕ Global) (marks : BucketMarks) → IsChained a → marks_of a ≡ marks →
+    a.next ≡ Some next →
     IsOpen a next marks
 opened a next marks chained view_is is = record {
   is_chain = subst (IsChainedBy a) is chained;
@@ -92,7 +94,8 @@ module _ (a : Inside) (next : Vec ℕ Global) (marks : BucketMarks) (open_words 
   whole same = omega arith
 
   pub first_use-IsChain : (after : Vec ℕ Global) (word : ℕ) → a.number_of_used ≡ length next.items →
-      a.number_of_used < a.number_of_buckets → after.items ≡ next.items ++ word ∷ [] → vec_capacity after ≡ vec_capacity next →
+      a.number_of_used < a.number_of_buckets → after.items ≡ next.items ++ word ∷ [] →
+      vec_capacity after ≡ vec_capacity next →
       IsChain (after_first_use after) after
   first_use-IsChain after word same fewer pushed room =
       let long : length after.items ≡ length next.items + 1 = ap length pushed ∙ length_push next.items word in
@@ -103,7 +106,8 @@ module _ (a : Inside) (next : Vec ℕ Global) (marks : BucketMarks) (open_words 
         within = omega arith;
         room = omega arith;
         once =
-            subst (λ n. AreFreedOnce (first_used (length after.items) a.number_of_buckets) (chain n a.first_free after.items))
+            subst (λ n. AreFreedOnce (first_used (length after.items) a.number_of_buckets)
+            (chain n a.first_free after.items))
             (sym none) tt;
       }
 
@@ -111,10 +115,12 @@ module _ (a : Inside) (next : Vec ℕ Global) (marks : BucketMarks) (open_words 
       a.number_of_used < a.number_of_buckets → after.items ≡ next.items ++ word ∷ [] →
       marks_of (after_first_use after) ≡ record marks { used = set marks.used a.number_of_used true }
   first_use-marks after word same fewer pushed =
-      let long : length after.items ≡ a.number_of_used + 1 = ap length pushed ∙ length_push next.items word ∙ omega arith in
+      let long : length after.items ≡ a.number_of_used + 1 = ap length pushed ∙ length_push next.items word
+      ∙ omega arith in
       let none : length after.items - (a.number_of_used + 1) ≡ 0 = omega arith in
       let before : marks.used ≡ first_used a.number_of_used a.number_of_buckets =
-      open_words.used ∙ ap (λ n. freed (first_used (length next.items) a.number_of_buckets) (chain n a.first_free next.items)) (whole same)
+      open_words.used ∙ ap (λ n.
+      freed (first_used (length next.items) a.number_of_buckets) (chain n a.first_free next.items)) (whole same)
       ∙ ap (λ n. first_used n a.number_of_buckets) (sym same) in
       let now : marks_by (after_first_use after) (Some after) ≡ set marks.used a.number_of_used true =
       ap (λ n. freed (first_used (length after.items) a.number_of_buckets) (chain n a.first_free after.items)) none
@@ -131,7 +137,8 @@ module _ (a : Inside) (next : Vec ℕ Global) (marks : BucketMarks) (open_words 
       from : (mark : Bool) → get_or marks.used a.number_of_used false ≡ mark → mark ≡ false
       from false e = refl
       from true e =
-          let used = freed-used (first_used (length next.items) a.number_of_buckets) (free_chain a next.items) a.number_of_used
+          let used = freed-used (first_used (length next.items) a.number_of_buckets) (free_chain a next.items)
+          a.number_of_used
           (ap (λ m. get_or m a.number_of_used false) (sym open_words.used) ∙ e) in
           absurd (omega (arith, first_used-below (length next.items) a.number_of_buckets a.number_of_used used))
 
@@ -163,16 +170,23 @@ linked a next marks open_words apart =
       used = open_words.used ∙ ap (λ n. freed base (chain n a.first_free next.items)) more;
     }
 
-module _ (a : Inside) (next : Vec ℕ Global) (marks : BucketMarks) (open_words : IsOpen a next marks) (links : IsLinked a next marks) where
+module _ (a : Inside) (next : Vec ℕ Global) (marks : BucketMarks) (open_words : IsOpen a next marks)
+    (links : IsLinked a next marks) where
   abbrev after_link : Inside
-  after_link = record a { next = Some next; first_free = get_or next.items a.first_free 0; number_of_used = a.number_of_used + 1 }
+  after_link = record a {
+    next = Some next;
+    first_free = get_or next.items a.first_free 0;
+    number_of_used =
+        a.number_of_used + 1;
+  }
 
   abbrev others : List Bool
   others = freed links.base (chain links.rest (get_or next.items a.first_free 0) next.items)
 
   pub link-has_word : a.first_free < length next.items
   link-has_word =
-      let used = freed-used links.base (chain links.rest (get_or next.items a.first_free 0) next.items) a.first_free links.once.0 in
+      let used = freed-used links.base (chain links.rest (get_or next.items a.first_free 0) next.items) a.first_free
+      links.once.0 in
       first_used-below (length next.items) a.number_of_buckets a.first_free
       (ap (λ m. get_or m a.first_free false) (sym links.base_is) ∙ used)
 
@@ -188,7 +202,8 @@ module _ (a : Inside) (next : Vec ℕ Global) (marks : BucketMarks) (open_words 
         room = open_words.is_chain.room;
         once =
             subst (λ m. AreFreedOnce m (free_chain after_link next.items)) links.base_is
-            (subst (λ n. AreFreedOnce links.base (chain n (get_or next.items a.first_free 0) next.items)) (sym links.counted_after)
+            (subst (λ n. AreFreedOnce links.base (chain n (get_or next.items a.first_free 0) next.items))
+            (sym links.counted_after)
             links.once.1);
       }
 
@@ -207,34 +222,44 @@ module _ (a : Inside) (next : Vec ℕ Global) (marks : BucketMarks) (open_words 
 
 -- ---- a bucket is given back
 
-module _ (a : Inside) (next : Vec ℕ Global) (marks : BucketMarks) (open_words : IsOpen a next marks) (bucket : ℕ) (used : get_or marks.used bucket false ≡ true) where
+module _ (a : Inside) (next : Vec ℕ Global) (marks : BucketMarks) (open_words : IsOpen a next marks) (bucket : ℕ)
+    (used : get_or marks.used bucket false ≡ true) where
   abbrev base : List Bool
   base = first_used (length next.items) a.number_of_buckets
 
   abbrev after_return : Inside
-  after_return = record a { next = Some (with_item next bucket a.first_free); first_free = bucket; number_of_used = a.number_of_used - 1 }
+  after_return = record a {
+    next = Some (with_item next bucket a.first_free);
+    first_free = bucket;
+    number_of_used =
+        a.number_of_used - 1;
+  }
 
   marked : get_or (freed base (free_chain a next.items)) bucket false ≡ true
   marked = ap (λ m. get_or m bucket false) (sym open_words.used) ∙ used
 
   pub return-has_word : bucket < length next.items
   return-has_word =
-      first_used-below (length next.items) a.number_of_buckets bucket (freed-used base (free_chain a next.items) bucket marked)
+      first_used-below (length next.items) a.number_of_buckets bucket
+      (freed-used base (free_chain a next.items) bucket marked)
 
   pub return-some : 1 ≤ a.number_of_used
   return-some = omega (arith, freed_one-count marks.used bucket used, open_words.seen.count)
 
   -- the chain now
-  chain_now : chain (length (set next.items bucket a.first_free) - (a.number_of_used - 1)) bucket (set next.items bucket a.first_free) ≡ bucket ∷ free_chain a next.items
+  chain_now : chain (length (set next.items bucket a.first_free) - (a.number_of_used - 1)) bucket
+      (set next.items bucket a.first_free) ≡ bucket ∷ free_chain a next.items
   chain_now =
       let few = open_words.is_chain.used in
       let some = return-some in
       let long = length-set next.items bucket a.first_free in
-      let more : length (set next.items bucket a.first_free) - (a.number_of_used - 1) ≡ suc (length next.items - a.number_of_used) = omega arith in
+      let more : length (set next.items bucket a.first_free) - (a.number_of_used - 1) ≡
+      suc (length next.items - a.number_of_used) = omega arith in
       ap (λ n. chain n bucket (set next.items bucket a.first_free)) more
       ∙ ap (λ n. bucket ∷ chain (length next.items - a.number_of_used) n (set next.items bucket a.first_free))
       (get_or-set_same next.items bucket a.first_free 0 return-has_word)
-      ∙ ap (λ rest. bucket ∷ rest) (chain-other base (length next.items - a.number_of_used) a.first_free next.items bucket a.first_free marked)
+      ∙ ap (λ rest. bucket ∷ rest)
+      (chain-other base (length next.items - a.number_of_used) a.first_free next.items bucket a.first_free marked)
 
   pub return-IsChain : IsChain after_return (with_item next bucket a.first_free)
   return-IsChain =
@@ -246,7 +271,8 @@ module _ (a : Inside) (next : Vec ℕ Global) (marks : BucketMarks) (open_words 
         within = omega arith;
         room = open_words.is_chain.room;
         once =
-            subst (λ n. AreFreedOnce (first_used n a.number_of_buckets) (free_chain after_return (set next.items bucket a.first_free)))
+            subst (λ n. AreFreedOnce (first_used n a.number_of_buckets)
+            (free_chain after_return (set next.items bucket a.first_free)))
             (sym long) (subst (AreFreedOnce base) (sym chain_now) (marked, open_words.is_chain.once));
       }
 
@@ -254,7 +280,8 @@ module _ (a : Inside) (next : Vec ℕ Global) (marks : BucketMarks) (open_words 
   return-marks =
       let long = length-set next.items bucket a.first_free in
       let now : marks_by after_return (Some (with_item next bucket a.first_free)) ≡ set marks.used bucket false =
-      ap (λ n. freed (first_used n a.number_of_buckets) (free_chain after_return (set next.items bucket a.first_free))) long
+      ap (λ n. freed (first_used n a.number_of_buckets) (free_chain after_return (set next.items bucket a.first_free)))
+      long
       ∙ ap (freed base) chain_now ∙ ap (λ m. set m bucket false) (sym open_words.used) in
       let ready = open_words.is_ready in
       cc

@@ -16,7 +16,8 @@ length-freed marks [] = refl
 length-freed marks (bucket ∷ buckets) = length-set (freed marks buckets) bucket false ∙ length-freed marks buckets
 
 -- what is used then was used before
-pub freed-used : (marks : List Bool) (buckets : List ℕ) (bucket : ℕ) → get_or (freed marks buckets) bucket false ≡ true →
+pub freed-used : (marks : List Bool) (buckets : List ℕ) (bucket : ℕ) →
+    get_or (freed marks buckets) bucket false ≡ true →
     get_or marks bucket false ≡ true
 freed-used marks [] bucket used = used
 freed-used marks (first ∷ buckets) bucket used =
@@ -66,11 +67,13 @@ first_used-below used count bucket is = from (cases_lt bucket used)
     from : (bucket < used) ⊎ (used ≤ bucket) → bucket < used
     from (inl below) = below
     from (inr past) =
-        absurd (false≢true (sym (get_or-append_right (replicate used true) (replicate (count - used) false) used bucket false
+        absurd (false≢true (sym (get_or-append_right (replicate used true) (replicate (count - used) false) used bucket
+        false
         (length-replicate used true) past ∙ none_used (count - used) (bucket - used)) ∙ is))
 
 -- one more is used
-pub first_used-next : (used count : ℕ) → used < count → first_used (used + 1) count ≡ set (first_used used count) used true
+pub first_used-next : (used count : ℕ) → used < count →
+    first_used (used + 1) count ≡ set (first_used used count) used true
 first_used-next used count below =
     let rest = replicate (count - (used + 1)) false in
     let more : count - used ≡ suc (count - (used + 1)) = omega arith in
@@ -93,7 +96,8 @@ pub chain-other : (marks : List Bool) (count first : ℕ) (next : List ℕ) (buc
     chain count first (set next bucket word) ≡ chain count first next
 chain-other marks zero first next bucket word used = refl
 chain-other marks (suc count) first next bucket word used =
-    ap (λ n. first ∷ chain count n (set next bucket word)) (get_or-set_other next bucket first word 0 (λ same. apart (sym same)))
+    ap (λ n. first ∷ chain count n (set next bucket word))
+    (get_or-set_other next bucket first word 0 (λ same. apart (sym same)))
     ∙ ap (λ rest. first ∷ rest) (chain-other marks count (get_or next first 0) next bucket word
     (sym (get_or-set_other tail first bucket false false apart) ∙ used))
   where
@@ -101,4 +105,5 @@ chain-other marks (suc count) first next bucket word used =
     tail = freed marks (chain count (get_or next first 0) next)
 
     apart : bucket ≢ first
-    apart same = false≢true (sym (set-free-is_free tail first) ∙ ap (λ n. get_or (set tail first false) n false) (sym same) ∙ used)
+    apart same = false≢true (sym (set-free-is_free tail first) ∙ ap
+        (λ n. get_or (set tail first false) n false) (sym same) ∙ used)

@@ -10,7 +10,8 @@ use Rattle.cal_alloc.specs.PoolFields.{IsKept, pool_of}
 use Rattle.cal_alloc.specs.SizeAndAlignment.{SizeAndAlignment}
 use Rattle.cal_alloc.proofs.Padding.{positive_power, next_multiple_of-twice}
 
-pub new_pool-sound : (memory_alignment memory_size : ℕ) (layout : SizeAndAlignment) → IsTrue (pool_fits memory_size layout) →
+pub new_pool-sound : (memory_alignment memory_size : ℕ) (layout : SizeAndAlignment) →
+    IsTrue (pool_fits memory_size layout) →
     IsTrue (is_power_of_two layout.alignment) → IsSoundPool (new_pool memory_alignment memory_size layout)
 new_pool-sound memory_alignment memory_size layout fits power =
     let size = bucket_size_of layout.size layout.alignment in
@@ -26,7 +27,8 @@ new_pool-sound memory_alignment memory_size layout fits power =
 -- and so are the fields of one
 pub kept_new : (memory_alignment memory_size : ℕ) (layout : SizeAndAlignment) → IsTrue (pool_fits memory_size layout) →
     IsTrue (is_power_of_two layout.alignment) → (size alignment : ℕ) (marks : BucketMarks) →
-    size ≡ bucket_size_of layout.size layout.alignment → alignment ≡ layout.alignment → marks ≡ all_free (memory_size / size) →
+    size ≡ bucket_size_of layout.size layout.alignment → alignment ≡ layout.alignment →
+    marks ≡ all_free (memory_size / size) →
     IsKept (record { bucket_size = size; alignment = alignment; memory_alignment = memory_alignment; buckets = marks })
 kept_new memory_alignment memory_size layout fits power size alignment marks is_size is_alignment is_marks =
     let buckets = bucket_size_of layout.size layout.alignment in

@@ -28,7 +28,8 @@ module _ (size_of : SizeAndAlignment → ℕ) where
       (λ byte inside in_other. free byte inside (used.0 byte in_other), apart-from_used Used chunk free others used.1)
 
   -- what stays used, where the bytes of one chunk may be freed
-  module _ (Before After : ℕ → Type 0) (freed : OutChunk) (others_used : (byte : ℕ) → ¬ IsByteOf size_of freed byte → Before byte → After byte) where
+  module _ (Before After : ℕ → Type 0) (freed : OutChunk) (others_used : (byte : ℕ) → ¬ IsByteOf size_of freed byte →
+      Before byte → After byte) where
     AreUsed-apart : (chunks : List OutChunk) → IsApartFrom size_of freed chunks → AreUsed size_of Before chunks →
         AreUsed size_of After chunks
     AreUsed-apart [] apart used = tt
@@ -38,11 +39,13 @@ module _ (size_of : SizeAndAlignment → ℕ) where
     )
 
   -- two of several chunks
-  apart-at : (chunk : OutChunk) (chunks : List OutChunk) (index : ℕ) (other : OutChunk) → slice_get chunks index ≡ Some other →
+  apart-at : (chunk : OutChunk) (chunks : List OutChunk) (index : ℕ) (other : OutChunk) →
+      slice_get chunks index ≡ Some other →
       IsApartFrom size_of chunk chunks → (byte : ℕ) → IsByteOf size_of chunk byte → ¬ IsByteOf size_of other byte
   apart-at chunk [] index other there apart = absurd (cc there)
   apart-at chunk (first ∷ chunks) zero other there apart =
-      subst (λ (c : OutChunk). (byte : ℕ) → IsByteOf size_of chunk byte → ¬ IsByteOf size_of c byte) (same_Some first other there) apart.0
+      subst (λ (c : OutChunk). (byte : ℕ) → IsByteOf size_of chunk byte → ¬ IsByteOf size_of c byte)
+      (same_Some first other there) apart.0
   apart-at chunk (first ∷ chunks) (suc index) other there apart = apart-at chunk chunks index other there apart.1
 
   -- those that are left where one of several is given back
@@ -64,7 +67,8 @@ module _ (size_of : SizeAndAlignment → ℕ) where
   apart-without chunk (first ∷ chunks) zero apart = apart.1
   apart-without chunk (first ∷ chunks) (suc index) apart = (apart.0, apart-without chunk chunks index apart.1)
 
-  AreApart-without : (chunks : List OutChunk) (index : ℕ) → AreApart size_of chunks → AreApart size_of (without_chunk index chunks)
+  AreApart-without : (chunks : List OutChunk) (index : ℕ) → AreApart size_of chunks →
+      AreApart size_of (without_chunk index chunks)
   AreApart-without [] index apart = tt
   AreApart-without (chunk ∷ chunks) zero apart = apart.1
   AreApart-without (chunk ∷ chunks) (suc index) apart =
@@ -74,7 +78,8 @@ module _ (size_of : SizeAndAlignment → ℕ) where
       AreWithin size_of total (without_chunk index chunks)
   AreWithin-without total [] index within = tt
   AreWithin-without total (chunk ∷ chunks) zero within = within.1
-  AreWithin-without total (chunk ∷ chunks) (suc index) within = (within.0, AreWithin-without total chunks index within.1)
+  AreWithin-without total (chunk ∷ chunks) (suc index) within =
+      (within.0, AreWithin-without total chunks index within.1)
 
 -- what holds of the chunks that are out of an allocator, all along a run
 pub record AreOut (properties before : Properties) (Used : ℕ → Type 0) (chunks : List OutChunk) : Type 0 where
@@ -83,20 +88,31 @@ pub record AreOut (properties before : Properties) (Used : ℕ → Type 0) (chun
   pub within : AreWithin (chunk_size before) before.total chunks
   pub used : AreUsed (chunk_size before) Used chunks
 
-module _ {S : Type 0} (Allocates : S → SizeAndAlignment → ℕ → S → Type 0) (Deallocates : S → ℕ → S → Type 0) (properties : S → Properties) (IsByteUsed IsAllocated : S → ℕ → Type 0) (IsPadding : S → ℕ → ℕ → Type 0) (before : Properties) where
-  module _ (allocation : (old : S) (layout : SizeAndAlignment) (pointer : ℕ) (new : S) → Allocates old layout pointer new → IsAllocation (properties old) (properties new) (IsByteUsed old) (IsByteUsed new) (IsAllocated old) (IsAllocated new) (IsPadding old pointer) layout pointer) (deallocation : (old : S) (pointer : ℕ) (new : S) → Deallocates old pointer new → IsDeallocation (properties old) (properties new) (IsByteUsed old) (IsByteUsed new) (IsAllocated old) (IsAllocated new) pointer) where
+module _ {S : Type 0} (Allocates : S → SizeAndAlignment → ℕ → S → Type 0) (Deallocates : S → ℕ → S → Type 0)
+    (properties : S → Properties) (IsByteUsed IsAllocated : S → ℕ → Type 0) (IsPadding : S → ℕ → ℕ → Type 0)
+    (before : Properties) where
+  module _ (allocation : (old : S) (layout : SizeAndAlignment) (pointer : ℕ) (new : S) →
+      Allocates old layout pointer new →
+      IsAllocation (properties old) (properties new) (IsByteUsed old) (IsByteUsed new) (IsAllocated old)
+      (IsAllocated new) (IsPadding old pointer) layout pointer) (deallocation : (old : S) (pointer : ℕ) (new : S) →
+      Deallocates old pointer new →
+      IsDeallocation (properties old) (properties new) (IsByteUsed old) (IsByteUsed new) (IsAllocated old)
+      (IsAllocated new) pointer) where
     AreOut-allocation : (old : S) (layout : SizeAndAlignment) (pointer : ℕ) (new : S) (chunks : List OutChunk) →
         Allocates old layout pointer new → AreOut (properties old) before (IsByteUsed old) chunks →
         AreOut (properties new) before (IsByteUsed new) (record { layout = layout; pointer = pointer } ∷ chunks)
     AreOut-allocation old layout pointer new chunks allocates out =
         let law = allocation old layout pointer new allocates in
-        let bytes = subst (λ (p : Properties). TakesChunk (IsByteUsed old) (IsByteUsed new) (IsPadding old pointer) pointer (chunk_size p layout))
+        let bytes = subst (λ (p : Properties). TakesChunk (IsByteUsed old) (IsByteUsed new) (IsPadding old pointer)
+        pointer (chunk_size p layout))
         out.same law.bytes in
-        let within = subst (λ (p : Properties). offset_of pointer + chunk_size p layout ≤ p.total) out.same law.within in
+        let within = subst (λ (p : Properties). offset_of pointer + chunk_size p layout ≤ p.total) out.same
+        law.within in
         record {
           same = law.properties ∙ out.same;
           apart = (
-            apart-from_used (chunk_size before) (IsByteUsed old) (record { layout = layout; pointer = pointer }) bytes.was_free chunks
+            apart-from_used (chunk_size before) (IsByteUsed old) (record { layout = layout; pointer = pointer })
+                bytes.was_free chunks
                 out.used,
             out.apart,
           );
@@ -108,23 +124,27 @@ module _ {S : Type 0} (Allocates : S → SizeAndAlignment → ℕ → S → Type
         }
 
     AreOut-deallocation : (old : S) (new : S) (chunks : List OutChunk) (index : ℕ) (chunk : OutChunk) →
-        slice_get chunks index ≡ Some chunk → Deallocates old chunk.pointer new → AreOut (properties old) before (IsByteUsed old) chunks →
+        slice_get chunks index ≡ Some chunk → Deallocates old chunk.pointer new →
+        AreOut (properties old) before (IsByteUsed old) chunks →
         AreOut (properties new) before (IsByteUsed new) (without_chunk index chunks)
     AreOut-deallocation old new chunks index chunk there deallocates out =
         let law = deallocation old chunk.pointer new deallocates in
-        let bytes = subst (λ (p : Properties). FreesChunk (IsByteUsed old) (IsByteUsed new) chunk.pointer (chunk_size p chunk.layout))
+        let bytes = subst (λ (p : Properties).
+        FreesChunk (IsByteUsed old) (IsByteUsed new) chunk.pointer (chunk_size p chunk.layout))
         out.same (law.bytes chunk.layout) in
         record {
           same = law.properties ∙ out.same;
           apart = AreApart-without (chunk_size before) chunks index out.apart;
           within = AreWithin-without (chunk_size before) before.total chunks index out.within;
           used =
-              AreUsed-without (chunk_size before) (IsByteUsed old) (IsByteUsed new) chunks index chunk there bytes.others_used out.apart
+              AreUsed-without (chunk_size before) (IsByteUsed old) (IsByteUsed new) chunks index chunk there
+              bytes.others_used out.apart
               out.used;
         }
 
     pub AreOut-run : (first : S) (out : List OutChunk) (steps : List Step) (last : S) (left : List OutChunk) →
-        IsRun Allocates Deallocates first out steps last left → AreOut (properties first) before (IsByteUsed first) out →
+        IsRun Allocates Deallocates first out steps last left →
+        AreOut (properties first) before (IsByteUsed first) out →
         AreOut (properties last) before (IsByteUsed last) left
     AreOut-run first out [] last left run holds =
         subst (λ (s : S). AreOut (properties s) before (IsByteUsed s) left) run.0

@@ -7,7 +7,8 @@ use Rattle.cal_alloc.specs.PointerOffset.{pointer_offset, offset_of}
 use Rattle.cal_alloc.specs.declared.shm_allocator.ShmAllocationError.{ShmAllocationError}
 use Rattle.cal_alloc.specs.declared.shm_allocator.ShmAllocationError.TheVariants.{ExceedsMaxSupportedAlignment, OutOfMemory, SizeIsZero}
 
--- the bytes of its memory, how many from the front on are used, the greatest alignment that its memory gives, and whether
+-- the bytes of its memory, how many from the front on are used, the greatest alignment that its memory gives, and
+-- whether
 -- `init` has answered Ok
 pub record Bump : Type 0 where
   pub total : ℕ
@@ -22,7 +23,8 @@ pub record IsSoundBump (bump : Bump) : Type 0 where
 
 -- a new bump allocator: no byte is used, and `init` is still to be called
 abbrev pub new_bump : ℕ → ℕ → Bump
-new_bump memory_alignment memory_size = record { total = memory_size; used = 0; memory_alignment = memory_alignment; is_ready = false }
+new_bump memory_alignment memory_size =
+    record { total = memory_size; used = 0; memory_alignment = memory_alignment; is_ready = false }
 
 -- the first byte of the next chunk: the used length, rounded up to the alignment
 abbrev pub next_offset : Bump → SizeAndAlignment → ℕ

@@ -35,7 +35,8 @@ marks_by a (Some next) = freed (first_used (length next.items) a.number_of_bucke
 abbrev pub marks_of : Inside → BucketMarks
 marks_of a = record { used = marks_by a a.next; is_ready = is_some a.next }
 
--- where the room is reserved: no more buckets are used than have a word, there is room for a word for each, and the chain
+-- where the room is reserved: no more buckets are used than have a word, there is room for a word for each, and the
+-- chain
 -- has each free bucket that has a word once
 pub record IsChain (a : Inside) (next : Vec ℕ Global) : Type 0 where
   pub used : a.number_of_used ≤ length next.items

@@ -1,4 +1,5 @@
--- The arithmetic of rows of equal buckets: padding, and the row that comes next where one doesn't serve. Sizes in bytes.
+-- The arithmetic of rows of equal buckets: padding, and the row that comes next where one doesn't serve. Sizes in
+-- bytes.
 use Rattle.std.specs.Prelude.{ℕ, zero, suc, ◌+◌, ◌*◌, max, Bool, true, false, ◌&&◌, nat_le, if◌then◌else◌}
 use Rattle.std.specs.Int.{next_multiple_of}
 use Rattle.cal_alloc.specs.declared.allocation_strategy.AllocationStrategy.{AllocationStrategy}
@@ -46,7 +47,8 @@ raised_size Static size alignment = size
 -- the row after this one: more buckets where each was used, larger ones where the chunk didn't fit
 abbrev pub raised_buckets : AllocationStrategy → SegmentLayout → Bool → ℕ → ℕ → SegmentLayout
 raised_buckets strategy old all_used size alignment = record {
-  size = if fits_bucket old size alignment then old.size else raised_size strategy (max old.size size) (max old.alignment alignment);
+  size = if fits_bucket old size alignment then old.size else raised_size strategy (max old.size size)
+      (max old.alignment alignment);
   alignment = max old.alignment alignment;
   count = if all_used then raised_count strategy old.count else old.count;
 }

@@ -26,7 +26,8 @@ one_set zero n few e = absurd (omega (arith, ap ones (nothing n few), no_digit, 
     nothing n few = omega arith
 one_set (suc fuel) n few e = from (cases_lt 0 (n % 2)) (one_set fuel (n / 2))
   where
-    from : (0 < n % 2) ⊎ (n % 2 ≤ 0) → (n / 2 ≤ fuel → ones (n / 2) ≡ 1 → (k : ℕ) × (n / 2 ≡ 2 ^ k)) → (k : ℕ) × (n ≡ 2 ^ k)
+    from : (0 < n % 2) ⊎ (n % 2 ≤ 0) → (n / 2 ≤ fuel → ones (n / 2) ≡ 1 → (k : ℕ) × (n / 2 ≡ 2 ^ k)) →
+        (k : ℕ) × (n ≡ 2 ^ k)
     from (inl odd) rest_is =
         let step = ones_step n in
         let rest = none_set n (n / 2) (omega arith) (omega (arith, step, e, odd)) in

@@ -30,7 +30,9 @@ buckets_within memory_size layout = record {
 -- 2 ^ 32 of them
 abbrev pub pool_fits : ℕ → SizeAndAlignment → Bool
 pool_fits memory_size layout =
-    nat_le memory_size (2 ^ 56) && (nat_lt (buckets_within memory_size layout).size (2 ^ 64) && nat_lt (buckets_within memory_size layout).count (2 ^ 32))
+    nat_le memory_size (2 ^ 56) &&
+    (nat_lt (buckets_within memory_size layout).size (2 ^ 64) && nat_lt (buckets_within memory_size layout).count
+    (2 ^ 32))
 
 -- a new pool: every bucket is free, and `init` is still to be called
 abbrev pub new_pool : ℕ → ℕ → SizeAndAlignment → Pool

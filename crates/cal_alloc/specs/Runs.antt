@@ -9,7 +9,8 @@ pub record OutChunk : Type 0 where
   pub layout : SizeAndAlignment
   pub pointer : ℕ
 
--- a step of a run: a chunk of this layout is given out at this pointer, or the chunk at this index of those that are out, the
+-- a step of a run: a chunk of this layout is given out at this pointer, or the chunk at this index of those that are
+-- out, the
 -- last one given out first, is given back
 pub data Step : Type 0 where
   gives : SizeAndAlignment → ℕ → Step
@@ -26,7 +27,8 @@ module _ {S : Type 0} (Allocates : S → SizeAndAlignment → ℕ → S → Type
   abbrev pub IsRun : S → List OutChunk → List Step → S → List OutChunk → Type 0
   IsRun first out [] last left = (first ≡ last) × (out ≡ left)
   IsRun first out (gives layout pointer ∷ steps) last left =
-      (next : S) × (Allocates first layout pointer next × IsRun next (record { layout = layout; pointer = pointer } ∷ out) steps last left)
+      (next : S) × (Allocates first layout pointer next ×
+      IsRun next (record { layout = layout; pointer = pointer } ∷ out) steps last left)
   IsRun first out (takes_back index ∷ steps) last left =
       (next : S) × ((chunk : OutChunk) × ((slice_get out index ≡ Some chunk)
       × (Deallocates first chunk.pointer next × IsRun next (without_chunk index out) steps last left)))
@@ -39,7 +41,8 @@ module _ (size_of : SizeAndAlignment → ℕ) where
   -- no byte of a chunk is one of another of these
   abbrev pub IsApartFrom : OutChunk → List OutChunk → Type 0
   IsApartFrom chunk [] = Unit {0}
-  IsApartFrom chunk (other ∷ others) = ((byte : ℕ) → IsByteOf chunk byte → ¬ IsByteOf other byte) × IsApartFrom chunk others
+  IsApartFrom chunk (other ∷ others) = ((byte : ℕ) → IsByteOf chunk byte → ¬ IsByteOf other byte) ×
+      IsApartFrom chunk others
 
   -- no two of these chunks have a byte in common: each is apart from all that come after it
   abbrev pub AreApart : List OutChunk → Type 0

@@ -189,7 +189,8 @@ impl ShmAllocator for BumpAllocator {
     }
 
     fn init(&mut self, _alloc: Global) -> Result<(), ShmAllocatorInitError>
-        ensures insufficient { IsErrOf result ShmAllocatorInitError.MaxSupportedMemoryAlignmentInsufficient ↔ (self.old.memory_alignment < 8) }
+        ensures insufficient { IsErrOf result ShmAllocatorInitError.MaxSupportedMemoryAlignmentInsufficient ↔
+            (self.old.memory_alignment < 8) }
         ensures never_failed { result ≢ Err ShmAllocatorInitError.AllocationFailed }
         ensures ok { OnOk result (self.new ≡ record self.old { is_ready = true }) }
         ensures err { OnErr result (self.new ≡ self.old) }

@@ -1,6 +1,6 @@
-//! Which buckets of a pool are free. Those that were used before stand in a chain, each of which names the next, and the
-//! last that was given back comes first. Those that were never used are in no chain and have no word yet, so a pool of
-//! many buckets is made without touching a word for each.
+//! Which buckets of a pool are free. Those that were used before stand in a chain, each of which names the next, and
+//! the last that was given back comes first. Those that were never used are in no chain and have no word yet, so a pool
+//! of many buckets is made without touching a word for each.
 ghost use Rattle.std.specs.Prelude.{◌≡◌, ◌<◌, length, false, true, count_by, slice_index_or, slice_set, IsTrue, IsFalse, OnOk, OnErr};
 ghost use Rattle.std.specs.List.{list_all};
 ghost use Rattle.cal_alloc.specs.FreeBuckets.{all_free};
@@ -13,8 +13,8 @@ use std::marker::Model;
 pub(crate) struct FreeBuckets {
     /// How many buckets there are.
     number_of_buckets: u32,
-    /// A word for each bucket that was ever used, with room for one for each bucket: a free bucket's word is the index of
-    /// the next in the chain, the last one's and a used one's are any numbers. None until the room is reserved.
+    /// A word for each bucket that was ever used, with room for one for each bucket: a free bucket's word is the index
+    /// of the next in the chain, the last one's and a used one's are any numbers. None until the room is reserved.
     next: Option<Vec<u32>>,
     /// The index of the chain's first bucket, where the chain has one.
     first_free: u32,

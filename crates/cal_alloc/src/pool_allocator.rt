@@ -59,7 +59,8 @@ impl ShmAllocatorConfig for Config {}
 /// alignment; the bytes that are left at the memory's end are in no bucket.
 #[derive(Debug, Drop)]
 pub struct PoolAllocator {
-    /// The size of each bucket in bytes: at least 1, and a multiple of the alignment. All buckets have at most 2^56 bytes.
+    /// The size of each bucket in bytes: at least 1, and a multiple of the alignment. All buckets have at most 2^56
+    /// bytes.
     bucket_size: usize,
     /// The alignment of each bucket's first byte, a power of two.
     alignment: usize,

@@ -1,7 +1,7 @@
-//! An allocator hands out chunks of a segment's memory by their offsets from its start, and keeps nothing in that memory.
-//! The layer above may rely on this: what is given out and not given back doesn't overlap, a refusal has its cause and
-//! changes nothing, giving a chunk back frees at most that chunk's own bytes, and memory that is set up as `resize_hint`
-//! proposes serves the layout that was asked for.
+//! An allocator hands out chunks of a segment's memory by their offsets from its start, and keeps nothing in that
+//! memory. The layer above may rely on this: what is given out and not given back doesn't overlap, a refusal has its
+//! cause and changes nothing, giving a chunk back frees at most that chunk's own bytes, and memory that is set up as
+//! `resize_hint` proposes serves the layout that was asked for.
 //!
 //! Ported from `shm_allocator/mod.rs` of iceoryx2-cal 0.9.3.
 
@@ -61,8 +61,8 @@ pub struct SizeOutOfRange;
 /// What an allocator is made from beside its memory.
 pub trait ShmAllocatorConfig: Copy + Default + Debug {}
 
-/// A proposal for a segment of memory: its payload size in bytes, and the configuration of the allocator that is made for
-/// that much memory.
+/// A proposal for a segment of memory: its payload size in bytes, and the configuration of the allocator that is made
+/// for that much memory.
 #[derive(Drop)]
 pub struct SharedMemorySetupHint<C: ShmAllocatorConfig> {
     /// The memory's size in bytes, at most 2^56.
@@ -71,16 +71,17 @@ pub struct SharedMemorySetupHint<C: ShmAllocatorConfig> {
     pub config: C,
 }
 
-/// Hands out chunks of memory by the offset of their first byte; offsets begin at 0. An implementation defines these ghosts:
+/// Hands out chunks of memory by the offset of their first byte; offsets begin at 0. An implementation defines these
+/// ghosts:
 ///
-/// - of its kind: `unique_id`; `growth_raises_alignment`; `fits`, the memory sizes and configurations that there can be an
-///   allocator for; `management_size`, the number of chunks that it keeps account of; `new_uninit`, the new allocator;
-///   `initial_setup_hint`, the memory that it proposes for so many chunks of a layout, None where none can be so large;
+/// - of its kind: `unique_id`; `growth_raises_alignment`; `fits`, the memory sizes and configurations that there can be
+/// an allocator for; `management_size`, the number of chunks that it keeps account of; `new_uninit`, the new allocator;
+/// `initial_setup_hint`, the memory that it proposes for so many chunks of a layout, None where none can be so large;
 /// - of an allocator: `IsSound`, what every allocator keeps; `properties`, what it has beside its chunks; `IsByteUsed`;
 ///   `IsAllocated`, at which pointers a chunk is out; `refusal`, why it refuses a layout, None where it serves it;
 ///   `resize_hint`, the memory that it proposes in its own place;
-/// - of what calls do to it: `after_init`; `Allocates`, a chunk of a layout was given out at a pointer; `IsPadding`, the bytes
-///   before that pointer that are skipped; `Deallocates`, the chunk at a pointer was given back.
+/// - of what calls do to it: `after_init`; `Allocates`, a chunk of a layout was given out at a pointer; `IsPadding`,
+/// the bytes before that pointer that are skipped; `Deallocates`, the chunk at a pointer was given back.
 ///
 /// It proves these laws:
 ///
@@ -89,7 +90,8 @@ pub struct SharedMemorySetupHint<C: ShmAllocatorConfig> {
 /// - `served`, `aligned`: a chunk that is given out is as large and as aligned as was asked for;
 /// - `fits_limit`, `hint_of_one_byte`, `refused_empty`: of memory sizes, hints and refusals.
 ///
-/// From these laws it follows, of every allocator, that chunks which are out don't overlap: `chunks_that_are_out_are_apart`.
+/// From these laws it follows, of every allocator, that chunks which are out don't overlap:
+/// `chunks_that_are_out_are_apart`.
 pub trait ShmAllocator: Debug + Drop {
     type Configuration: ShmAllocatorConfig;
 
@@ -136,16 +138,17 @@ pub trait ShmAllocator: Debug + Drop {
         ensures value { result_ok result ≡ resize_hint self.now layout strategy }
         ensures fits { IfOk result (λ hint. IsTrue (fits hint.payload_size hint.config)) }
 
-        // A new allocator that is made by the hint, for memory of any alignment, serves the layout; but a static strategy
-        // proposes what is there, an empty chunk may be refused everywhere, and not each allocator can raise its alignment.
+        // A new allocator that is made by the hint, for memory of any alignment, serves the layout; but a static
+        // strategy proposes what is there, an empty chunk may be refused everywhere, and not each allocator can raise
+        // its alignment.
         ensures serves { strategy ≢ AllocationStrategy.Static →
             refusal self.now layout ≢ Some ShmAllocationError.SizeIsZero →
             (IsFalse growth_raises_alignment → layout.alignment ≤ (properties self.now).max_alignment) →
             IfOk result (λ hint. (alignment : ℕ) →
             refusal (after_init (new_uninit alignment hint.payload_size hint.config)) layout ≡ None) };
 
-    /// The memory to set up for that many chunks of that layout. `SizeOutOfRange` where no memory can be so large, or no
-    /// allocator can have so many chunks.
+    /// The memory to set up for that many chunks of that layout. `SizeOutOfRange` where no memory can be so large, or
+    /// no allocator can have so many chunks.
     fn initial_setup_hint(
         max_chunk_layout: Layout,
         max_number_of_chunks: usize,
@@ -162,7 +165,8 @@ pub trait ShmAllocator: Debug + Drop {
         requires fits { IsTrue (fits memory_size config.now) }
         ensures value { result ≡ management_size memory_size config.now };
 
-    /// An allocator for that many bytes of memory, of which nothing is handed out. It serves once `init` has answered Ok.
+    /// An allocator for that many bytes of memory, of which nothing is handed out. It serves once `init` has answered
+    /// Ok.
     fn new_uninit(
         max_supported_alignment_by_memory: usize,
         memory_size: usize,
@@ -171,8 +175,8 @@ pub trait ShmAllocator: Debug + Drop {
         requires fits { IsTrue (fits memory_size config.now) }
         ensures value { result ≡ new_uninit max_supported_alignment_by_memory memory_size config.now };
 
-    /// Takes the memory for what the allocator keeps of its chunks; to be called until it has answered Ok once. After an error
-    /// the allocator is as before.
+    /// Takes the memory for what the allocator keeps of its chunks; to be called until it has answered Ok once. After
+    /// an error the allocator is as before.
     fn init(&mut self, alloc: Global) -> Result<(), ShmAllocatorInitError>
         requires once { IsFalse (properties self.old).is_ready }
         ensures insufficient { IsErrOf result ShmAllocatorInitError.MaxSupportedMemoryAlignmentInsufficient ↔
@@ -197,8 +201,8 @@ pub trait ShmAllocator: Debug + Drop {
     fn relative_start_address(&self) -> usize
         ensures value { result ≡ 0 };
 
-    /// Hands out a chunk of that layout, and gives the offset of its first byte, in segment 0. After an error the allocator is
-    /// as before.
+    /// Hands out a chunk of that layout, and gives the offset of its first byte, in segment 0. After an error the
+    /// allocator is as before.
     fn allocate(&mut self, layout: Layout) -> Result<PointerOffset, ShmAllocationError>
         requires ready { IsTrue (properties self.old).is_ready }
         ensures refused { result_err result ≡ refusal self.old layout }
@@ -227,7 +231,8 @@ pub trait ShmAllocator: Debug + Drop {
         pointer };
 
     // The first byte of a chunk that is out is used.
-    ghost allocated_is_used: { (old : Self) (pointer : ℕ) → IsAllocated old pointer → IsByteUsed old (offset_of pointer) };
+    ghost allocated_is_used: { (old : Self) (pointer : ℕ) → IsAllocated old pointer →
+        IsByteUsed old (offset_of pointer) };
 
     // Each used byte is one of the allocator's.
     ghost used_below_total: { (old : Self) (byte : ℕ) → IsSound old → IsByteUsed old byte → byte < (properties old).total };
@@ -245,7 +250,8 @@ pub trait ShmAllocator: Debug + Drop {
     ghost fits_limit: { (size : ℕ) (config : Self.Configuration) → IsTrue (fits size config) → size ≤ 2 ^ 56 };
 
     // The memory for one chunk of one byte is one byte.
-    ghost hint_of_one_byte: { IsSomeAnd (initial_setup_hint (record { size = 1; alignment = 1 }) 1) (λ hint. hint.payload_size ≡ 1) };
+    ghost hint_of_one_byte: { IsSomeAnd (initial_setup_hint (record { size = 1; alignment = 1 }) 1)
+        (λ hint. hint.payload_size ≡ 1) };
 
     // Only an empty chunk is refused for its size.
     ghost refused_empty: { (old : Self) (layout : SizeAndAlignment) →

@@ -10,7 +10,8 @@ use crate::{
 use std::alloc::Global;
 use std::test::Fail;
 
-/// The pointers of two chunks that are handed out one after the other. The clause is proved from the laws of the trait alone.
+/// The pointers of two chunks that are handed out one after the other. The clause is proved from the laws of the trait
+/// alone.
 fn two_chunks<A: ShmAllocator>(
     allocator: &mut A,
     layout: Layout,
@@ -25,8 +26,8 @@ fn two_chunks<A: ShmAllocator>(
     Some((first, second))
 }
 
-/// The pointer that a layout gets in memory that is set up as this allocator proposes. It gets one in any case: that the
-/// `unwrap` may be called is proved from the clauses of the trait alone.
+/// The pointer that a layout gets in memory that is set up as this allocator proposes. It gets one in any case: that
+/// the `unwrap` may be called is proved from the clauses of the trait alone.
 fn offset_after_growth<A: ShmAllocator>(
     alloc: Global,
     allocator: &A,
@@ -35,7 +36,8 @@ fn offset_after_growth<A: ShmAllocator>(
 ) -> Result<PointerOffset, Fail>
     requires growing { strategy ≢ AllocationStrategy.Static }
     requires not_empty { A.refusal allocator.now layout ≢ Some ShmAllocationError.SizeIsZero }
-    requires aligned { IsFalse A.growth_raises_alignment → layout.alignment ≤ (A.properties allocator.now).max_alignment }
+    requires aligned { IsFalse A.growth_raises_alignment →
+        layout.alignment ≤ (A.properties allocator.now).max_alignment }
 {
     let hint = allocator.resize_hint(layout, strategy)?;
     let mut next = A::new_uninit(4096, hint.payload_size, &hint.config);
@@ -43,8 +45,8 @@ fn offset_after_growth<A: ShmAllocator>(
     Ok(next.allocate(layout).unwrap())
 }
 
-/// The pointer of a second chunk, where the first was given back before it. That the first is out, and that the allocator
-/// still serves then, is proved from the laws of the trait alone.
+/// The pointer of a second chunk, where the first was given back before it. That the first is out, and that the
+/// allocator still serves then, is proved from the laws of the trait alone.
 fn offset_after_return<A: ShmAllocator>(allocator: &mut A, layout: Layout) -> Option<PointerOffset>
     requires { IsTrue (A.properties allocator.old).is_ready }
 {

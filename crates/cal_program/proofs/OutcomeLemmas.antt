@@ -26,14 +26,16 @@ use Rattle.cal_program.specs.Outcome.{asks_for_run, status_text, script_status, 
 abbrev told : Option (List ℕ) → List ℕ → Type 0
 told left bytes = left ≡ Some bytes
 
-whole-told : (left now : Option (List ℕ)) (xs bytes : List ℕ) → left ≡ Some xs → Consumes left now bytes → IsAtEnd now → xs ≡ bytes
+whole-told : (left now : Option (List ℕ)) (xs bytes : List ℕ) → left ≡ Some xs → Consumes left now bytes → IsAtEnd now →
+    xs ≡ bytes
 whole-told None now xs bytes e c end = absurd cc
 whole-told (Some ys) None xs bytes e c end = absurd c
 whole-told (Some ys) (Some zs) xs bytes e c end =
     let same : ys ≡ xs = cc in
     sym same ∙ c ∙ ap (λ (rest : List ℕ). bytes ++ rest) end ∙ append-nil bytes
 
-front-told : (left now : Option (List ℕ)) (xs bytes : List ℕ) → left ≡ Some xs → Consumes left now bytes → length bytes ≤ length xs
+front-told : (left now : Option (List ℕ)) (xs bytes : List ℕ) → left ≡ Some xs → Consumes left now bytes →
+    length bytes ≤ length xs
 front-told None now xs bytes e c = absurd cc
 front-told (Some ys) None xs bytes e c = absurd c
 front-told (Some ys) (Some zs) xs bytes e c =
@@ -42,24 +44,31 @@ front-told (Some ys) (Some zs) xs bytes e c =
 
 -- ---- the due status of bytes that aren't too many
 
-due_status-run : (words : List (List ℕ)) (bytes : List ℕ) → IsTrue (asks_for_run words) → length bytes ≤ script_limit → due_status words bytes ≡ script_status (script_of bytes)
+due_status-run : (words : List (List ℕ)) (bytes : List ℕ) → IsTrue (asks_for_run words) → length bytes ≤ script_limit →
+    due_status words bytes ≡ script_status (script_of bytes)
 due_status-run words bytes asks within = rw (asks, le-ltb script_limit (length bytes) within) refl
 
-due_status-long : (words : List (List ℕ)) (bytes : List ℕ) → IsTrue (asks_for_run words) → script_limit < length bytes → due_status words bytes ≡ TooLong
+due_status-long : (words : List (List ℕ)) (bytes : List ℕ) → IsTrue (asks_for_run words) → script_limit < length bytes →
+    due_status words bytes ≡ TooLong
 due_status-long words bytes asks long = rw (asks, lt-ltb script_limit (length bytes) long) refl
 
-due_status-usage : (words : List (List ℕ)) (bytes : List ℕ) → asks_for_run words ≡ false → due_status words bytes ≡ Usage
+due_status-usage : (words : List (List ℕ)) (bytes : List ℕ) → asks_for_run words ≡ false →
+    due_status words bytes ≡ Usage
 due_status-usage words bytes none = rw none refl
 
 -- ---- which scripts are served
 
-any-first : (command : Command) (commands : List Command) → is_unbuilt command ≡ true → list_any is_unbuilt (command ∷ commands) ≡ true
+any-first : (command : Command) (commands : List Command) → is_unbuilt command ≡ true →
+    list_any is_unbuilt (command ∷ commands) ≡ true
 any-first command commands e = rw e refl
 
-any-later : (command : Command) (commands : List Command) → list_any is_unbuilt commands ≡ true → list_any is_unbuilt (command ∷ commands) ≡ true
-any-later command commands e = rw e (elim (is_unbuilt command) as (λ b. (b || true) ≡ true) [ true ↦ refl | false ↦ refl ])
+any-later : (command : Command) (commands : List Command) → list_any is_unbuilt commands ≡ true →
+    list_any is_unbuilt (command ∷ commands) ≡ true
+any-later command commands e =
+    rw e (elim (is_unbuilt command) as (λ b. (b || true) ≡ true) [ true ↦ refl | false ↦ refl ])
 
-stops-unbuilt : (l : Ledger) (place : ℕ) (commands : List Command) (replies : List Reply) → StopsAt IsCount l place commands replies → list_any is_unbuilt commands ≡ true
+stops-unbuilt : (l : Ledger) (place : ℕ) (commands : List Command) (replies : List Reply) →
+    StopsAt IsCount l place commands replies → list_any is_unbuilt commands ≡ true
 stops-unbuilt l place [] replies h = absurd h
 stops-unbuilt l place (asked ∷ commands) [] h = any-first asked commands (ap is_unbuilt h)
 stops-unbuilt l place (asked ∷ commands) (reply ∷ replies) h =
@@ -77,13 +86,18 @@ no-count (command.Reclaim channel ∷ commands) h = no-count commands (λ place.
 no-count (command.Discard chunk ∷ commands) h = no-count commands (λ place. h (suc place))
 no-count (command.Count ∷ commands) h = absurd (h 0 refl)
 
-done-status : (script : ParsedScript) → create_cause script.settings ≡ None → is_built script.settings ≡ true → HasNoCount script.commands → Done ≡ script_status (Ok script)
+done-status : (script : ParsedScript) → create_cause script.settings ≡ None → is_built script.settings ≡ true →
+    HasNoCount script.commands → Done ≡ script_status (Ok script)
 done-status script created built h = rw (created, built, no-count script.commands h) refl
 
-stops-status : (script : ParsedScript) (replies : List Reply) (built : Bool) → create_cause script.settings ≡ None → is_built script.settings ≡ built → StopsUnbuilt script.settings script.commands replies → NotBuilt ≡ script_status (Ok script)
+stops-status : (script : ParsedScript) (replies : List Reply) (built : Bool) → create_cause script.settings ≡ None →
+    is_built script.settings ≡ built → StopsUnbuilt script.settings script.commands replies →
+    NotBuilt ≡ script_status (Ok script)
 stops-status script replies false created built h = rw (created, built) refl
 stops-status script replies true created built h =
-    let stops = subst (λ (b : Bool). MatchBool b (StopsAt IsCount (first_ledger script.settings) 1 script.commands replies) (replies ≡ [])) built h in
+    let stops = subst (λ (b : Bool).
+    MatchBool b (StopsAt IsCount (first_ledger script.settings) 1 script.commands replies) (replies ≡ [])) built
+    h in
     rw (created, built, stops-unbuilt (first_ledger script.settings) 1 script.commands replies stops) refl
 
 -- ---- what was judged of bytes that were read
@@ -92,7 +106,8 @@ stops-status script replies true created built h =
 abbrev IsFair : Status → Result ParsedScript ℕ → Type 0
 IsFair status found = (status ≡ script_status found) ⊎ (status ≡ NoMemory)
 
-answer-fair : (script : ParsedScript) (status : Status) (replies : List Reply) → IsOutcomeOfScript script status replies → IsFair status (Ok script)
+answer-fair : (script : ParsedScript) (status : Status) (replies : List Reply) →
+    IsOutcomeOfScript script status replies → IsFair status (Ok script)
 answer-fair script Done replies h = inl (done-status script h.0 h.1 h.2)
 answer-fair script (BadScript number) replies h = absurd h
 answer-fair script (NotCreated cause) replies h = inl (rw h.0 refl)
@@ -103,10 +118,14 @@ answer-fair script Usage replies h = absurd h
 answer-fair script TooLong replies h = absurd h
 answer-fair script NotBuilt replies h = inl (stops-status script h.1.0 (is_built script.settings) h.0 refl h.1.1)
 
-script-fair : (bytes : List ℕ) (status : Status) (replies : List Reply) → ((script : ParsedScript) × (script_of bytes ≡ Ok script) × IsOutcomeOfScript script status replies) → IsFair status (script_of bytes)
-script-fair bytes status replies h = subst (λ (found : Result ParsedScript ℕ). IsFair status found) (sym h.1) (answer-fair h.0 status replies h.2)
+script-fair : (bytes : List ℕ) (status : Status) (replies : List Reply) →
+    ((script : ParsedScript) × (script_of bytes ≡ Ok script) × IsOutcomeOfScript script status replies) →
+    IsFair status (script_of bytes)
+script-fair bytes status replies h = subst
+    (λ (found : Result ParsedScript ℕ). IsFair status found) (sym h.1) (answer-fair h.0 status replies h.2)
 
-verdict-fair : (bytes : List ℕ) (status : Status) (replies : List Reply) → IsOutcomeOfBytes bytes status replies → IsFair status (script_of bytes)
+verdict-fair : (bytes : List ℕ) (status : Status) (replies : List Reply) → IsOutcomeOfBytes bytes status replies →
+    IsFair status (script_of bytes)
 verdict-fair bytes (BadScript number) replies h = inl (rw h.0 refl)
 verdict-fair bytes NoMemory replies h = inr refl
 verdict-fair bytes Done replies h = script-fair bytes Done replies h
@@ -119,7 +138,9 @@ verdict-fair bytes NotBuilt replies h = script-fair bytes NotBuilt replies h
 
 -- ---- the status that is due
 
-excused-right : (words : List (List ℕ)) (bytes : List ℕ) (before now : SourceState) (sink_before sink_now : SinkState) (status : Status) → IsTrue (asks_for_run words) → due_status words bytes ≡ script_status (script_of bytes) → IsFair status (script_of bytes) → IsDueOrExcused words bytes before now sink_before sink_now status
+excused-right : (words : List (List ℕ)) (bytes : List ℕ) (before now : SourceState) (sink_before sink_now : SinkState)
+    (status : Status) → IsTrue (asks_for_run words) → due_status words bytes ≡ script_status (script_of bytes) →
+    IsFair status (script_of bytes) → IsDueOrExcused words bytes before now sink_before sink_now status
 excused-right words bytes before now sink_before sink_now status asks due fair =
     elim fair [
       | inl e ↦ inl (e ∙ sym due)
@@ -127,18 +148,24 @@ excused-right words bytes before now sink_before sink_now status asks due fair =
     ]
 
 -- a status that comes after all bytes were read
-read-right : (words : List (List ℕ)) (before now : SourceState) (sink_before sink_now : SinkState) (xs : List ℕ) (status : Status) (replies : List Reply) → before.left ≡ Some xs → IsTrue (asks_for_run words) → ((bytes : List ℕ) × ReadsAll before now bytes × IsOutcomeOfBytes bytes status replies) → IsDueOrExcused words xs before now sink_before sink_now status
+read-right : (words : List (List ℕ)) (before now : SourceState) (sink_before sink_now : SinkState) (xs : List ℕ)
+    (status : Status) (replies : List Reply) → before.left ≡ Some xs → IsTrue (asks_for_run words) →
+    ((bytes : List ℕ) × ReadsAll before now bytes × IsOutcomeOfBytes bytes status replies) →
+    IsDueOrExcused words xs before now sink_before sink_now status
 read-right words before now sink_before sink_now xs status replies tells asks h =
     let same : xs ≡ h.0 = whole-told before.left now.left xs h.0 tells h.1.taken.front h.1.ended in
     let within : length xs ≤ script_limit = omega (arith, ap length same, h.1.within) in
     excused-right words xs before now sink_before sink_now status asks (due_status-run words xs asks within)
     (subst (λ (bytes : List ℕ). IsFair status (script_of bytes)) (sym same) (verdict-fair h.0 status replies h.2))
 
-due-right : (words : List (List ℕ)) (before now : SourceState) (sink_before sink_now : SinkState) (xs : List ℕ) (status : Status) (replies : List Reply) → before.left ≡ Some xs → IsDue words before now status replies → IsDueOrExcused words xs before now sink_before sink_now status
+due-right : (words : List (List ℕ)) (before now : SourceState) (sink_before sink_now : SinkState) (xs : List ℕ)
+    (status : Status) (replies : List Reply) → before.left ≡ Some xs → IsDue words before now status replies →
+    IsDueOrExcused words xs before now sink_before sink_now status
 due-right words before now sink_before sink_now xs Usage replies tells h = inl (sym (due_status-usage words xs h.0))
 due-right words before now sink_before sink_now xs ReadFault replies tells h = inr (h.0, h.1.fault)
 due-right words before now sink_before sink_now xs TooLong replies tells h =
-    inl (sym (due_status-long words xs h.0 (omega (arith, h.1.past, front-told before.left now.left xs h.1.bytes tells h.1.taken.front))))
+    inl (sym (due_status-long words xs h.0
+    (omega (arith, h.1.past, front-told before.left now.left xs h.1.bytes tells h.1.taken.front))))
 due-right words before now sink_before sink_now xs NoMemory [] tells h = inr h.0
 due-right words before now sink_before sink_now xs NoMemory (reply ∷ replies) tells h = inr h.0
 due-right words before now sink_before sink_now xs Done replies tells h =
@@ -154,7 +181,8 @@ due-right words before now sink_before sink_now xs NotBuilt replies tells h =
 
 -- ---- the status that the program ends with
 
-written-status : (before now : SinkState) (text : List ℕ) (due status : Status) → IsWritten before now text due status → ((status ≡ WriteFault) × Rose before.faults now.faults) ⊎ ((status ≡ due) × PutsAll before now text)
+written-status : (before now : SinkState) (text : List ℕ) (due status : Status) → IsWritten before now text due status →
+    ((status ≡ WriteFault) × Rose before.faults now.faults) ⊎ ((status ≡ due) × PutsAll before now text)
 written-status before now text due WriteFault h = inl (refl, h.puts.fault)
 written-status before now text due Done h = inr (h.1, h.0)
 written-status before now text due (BadScript number) h = inr (h.1, h.0)
@@ -165,7 +193,10 @@ written-status before now text due Usage h = inr (h.1, h.0)
 written-status before now text due TooLong h = inr (h.1, h.0)
 written-status before now text due NotBuilt h = inr (h.1, h.0)
 
-right-told : (words : List (List ℕ)) (before now : SourceState) (sink_before sink_now : SinkState) (status : Status) (replies : List Reply) (xs : List ℕ) → before.left ≡ Some xs → EndsDue words before now sink_before sink_now status replies → IsDueOrExcused words xs before now sink_before sink_now status
+right-told : (words : List (List ℕ)) (before now : SourceState) (sink_before sink_now : SinkState) (status : Status)
+    (replies : List Reply) (xs : List ℕ) → before.left ≡ Some xs →
+    EndsDue words before now sink_before sink_now status replies →
+    IsDueOrExcused words xs before now sink_before sink_now status
 right-told words before now sink_before sink_now status replies xs tells h =
     elim (written-status sink_before sink_now (status_text h.0 replies) h.0 status h.2) [
       | inl p ↦ subst (λ (s : Status). IsDueOrExcused words xs before now sink_before sink_now s) (sym p.0) (inr p.1)
@@ -178,7 +209,9 @@ if-told : (left : Option (List ℕ)) (P : List ℕ → Type 0) → ((xs : List �
 if-told None P f = tt
 if-told (Some xs) P f = f xs refl
 
-pub EndsDue-right : (words : List (List ℕ)) (before now : SourceState) (sink_before sink_now : SinkState) (status : Status) (replies : List Reply) → EndsDue words before now sink_before sink_now status replies → IfSome before.left (λ bytes. IsDueOrExcused words bytes before now sink_before sink_now status)
+pub EndsDue-right : (words : List (List ℕ)) (before now : SourceState) (sink_before sink_now : SinkState)
+    (status : Status) (replies : List Reply) → EndsDue words before now sink_before sink_now status replies →
+    IfSome before.left (λ bytes. IsDueOrExcused words bytes before now sink_before sink_now status)
 EndsDue-right words before now sink_before sink_now status replies h =
     if-told before.left (λ bytes. IsDueOrExcused words bytes before now sink_before sink_now status)
     (λ xs tells. right-told words before now sink_before sink_now status replies xs tells h)
@@ -186,7 +219,9 @@ EndsDue-right words before now sink_before sink_now status replies h =
 -- ---- a run that is done
 
 -- some status was due, and it is that with which the program ends
-done-due : (words : List (List ℕ)) (before now : SourceState) (sink_before sink_now : SinkState) (status : Status) (replies : List Reply) → status ≡ Done → EndsDue words before now sink_before sink_now status replies → IsDue words before now Done replies × PutsAll sink_before sink_now (reply_lines replies)
+done-due : (words : List (List ℕ)) (before now : SourceState) (sink_before sink_now : SinkState) (status : Status)
+    (replies : List Reply) → status ≡ Done → EndsDue words before now sink_before sink_now status replies →
+    IsDue words before now Done replies × PutsAll sink_before sink_now (reply_lines replies)
 done-due words before now sink_before sink_now status replies done h =
     elim (written-status sink_before sink_now (status_text h.0 replies) h.0 status h.2) [
       | inl p ↦ absurd (let e : WriteFault ≡ Done = sym p.0 ∙ done in cc)
@@ -196,16 +231,22 @@ done-due words before now sink_before sink_now status replies done h =
       )
     ]
 
-pub EndsDue-written : (words : List (List ℕ)) (before now : SourceState) (sink_before sink_now : SinkState) (status : Status) (replies : List Reply) → EndsDue words before now sink_before sink_now status replies → status ≡ Done → PutsAll sink_before sink_now (reply_lines replies)
+pub EndsDue-written : (words : List (List ℕ)) (before now : SourceState) (sink_before sink_now : SinkState)
+    (status : Status) (replies : List Reply) → EndsDue words before now sink_before sink_now status replies →
+    status ≡ Done → PutsAll sink_before sink_now (reply_lines replies)
 EndsDue-written words before now sink_before sink_now status replies h done =
     (done-due words before now sink_before sink_now status replies done h).1
 
-done-told : (words : List (List ℕ)) (before now : SourceState) (replies : List Reply) (xs : List ℕ) → before.left ≡ Some xs → IsDue words before now Done replies → AreRepliesTo xs replies
+done-told : (words : List (List ℕ)) (before now : SourceState) (replies : List Reply) (xs : List ℕ) →
+    before.left ≡ Some xs → IsDue words before now Done replies → AreRepliesTo xs replies
 done-told words before now replies xs tells h =
     let same : xs ≡ h.1.0 = whole-told before.left now.left xs h.1.0 tells h.1.1.taken.front h.1.1.ended in
     subst (λ (bytes : List ℕ). AreRepliesTo bytes replies) (sym same) (h.1.2.0, h.1.2.1, h.1.2.2.3)
 
-pub EndsDue-done : (words : List (List ℕ)) (before now : SourceState) (sink_before sink_now : SinkState) (status : Status) (replies : List Reply) → EndsDue words before now sink_before sink_now status replies → status ≡ Done → IfSome before.left (λ bytes. AreRepliesTo bytes replies)
+pub EndsDue-done : (words : List (List ℕ)) (before now : SourceState) (sink_before sink_now : SinkState)
+    (status : Status) (replies : List Reply) → EndsDue words before now sink_before sink_now status replies →
+    status ≡ Done → IfSome before.left (λ bytes. AreRepliesTo bytes replies)
 EndsDue-done words before now sink_before sink_now status replies h done =
     if-told before.left (λ bytes. AreRepliesTo bytes replies)
-    (λ xs tells. done-told words before now replies xs tells (done-due words before now sink_before sink_now status replies done h).0)
+    (λ xs tells. done-told words before now replies xs tells
+    (done-due words before now sink_before sink_now status replies done h).0)

@@ -67,7 +67,8 @@ Appends-keeps (Some xs) None c x p q = absurd p
 Appends-keeps (Some xs) (Some ys) None x p q = absurd q
 Appends-keeps (Some xs) (Some ys) (Some zs) x p q = q ∙ p
 
-AppendsFront-of : (a c : Option (List ℕ)) (x rest text : List ℕ) → x ++ rest ≡ text → Appends a c x → AppendsFront a c text
+AppendsFront-of : (a c : Option (List ℕ)) (x rest text : List ℕ) → x ++ rest ≡ text → Appends a c x →
+    AppendsFront a c text
 AppendsFront-of a c x rest text e p =
     subst (λ (t : List ℕ). AppendsFront a c t) e (
       length x,
@@ -76,7 +77,8 @@ AppendsFront-of a c x rest text e p =
     )
 
 -- a write failed after others
-pub AppendsFront-kept : (a b c : Option (List ℕ)) (x rest text : List ℕ) → x ++ rest ≡ text → Appends a b x → Keeps b c →
+pub AppendsFront-kept : (a b c : Option (List ℕ)) (x rest text : List ℕ) → x ++ rest ≡ text → Appends a b x →
+    Keeps b c →
     AppendsFront a c text
 AppendsFront-kept a b c x rest text e p q = AppendsFront-of a c x rest text e (Appends-keeps a b c x p q)
 
@@ -84,7 +86,8 @@ AppendsFront-kept a b c x rest text e p q = AppendsFront-of a c x rest text e (A
 pub AppendsFront-none : (a b c : Option (List ℕ)) (x rest text : List ℕ) → x ++ rest ≡ text → Appends a b x →
     Appends b c [] → AppendsFront a c text
 AppendsFront-none a b c x rest text e p q =
-    AppendsFront-of a c x rest text e (subst (λ (t : List ℕ). Appends a c t) (append-nil x) (Appends-then a b c x [] p q))
+    AppendsFront-of a c x rest text e
+    (subst (λ (t : List ℕ). Appends a c t) (append-nil x) (Appends-then a b c x [] p q))
 
 pub Puts-none : (a : SinkState) → Puts a a []
 Puts-none a = record { appended = Appends-none a.written; no_fault = refl }

@@ -78,26 +78,31 @@ script_status (Ok script) = settings_status (create_cause script.settings) (is_s
 
 abbrev pub due_status : List (List ℕ) → List ℕ → Status
 due_status words bytes =
-    if asks_for_run words then (if nat_lt script_limit (length bytes) then TooLong else script_status (script_of bytes)) else Usage
+    if asks_for_run words then (if nat_lt script_limit (length bytes) then TooLong else script_status (script_of bytes))
+    else Usage
 
 -- ---- what is due for each status
 
 -- The transport answered a script so.
 abbrev pub IsOutcomeOfScript : ParsedScript → Status → List Reply → Type 0
 IsOutcomeOfScript script Done replies =
-    (create_cause script.settings ≡ None) × IsTrue (is_built script.settings) × HasNoCount script.commands × IsRun script.settings script.commands replies
+    (create_cause script.settings ≡ None) × IsTrue (is_built script.settings) × HasNoCount script.commands ×
+    IsRun script.settings script.commands replies
 IsOutcomeOfScript script (NotCreated cause) replies = (create_cause script.settings ≡ Some cause) × (replies ≡ [])
 IsOutcomeOfScript script NotBuilt replies =
-    (create_cause script.settings ≡ None) × ((answered : List Reply) × StopsUnbuilt script.settings script.commands answered) × (replies ≡ [])
+    (create_cause script.settings ≡ None) ×
+    ((answered : List Reply) × StopsUnbuilt script.settings script.commands answered) × (replies ≡ [])
 IsOutcomeOfScript script NoMemory replies =
-    (create_cause script.settings ≡ None) × IsTrue (is_built script.settings) × StopsForMemory script.settings script.commands replies
+    (create_cause script.settings ≡ None) × IsTrue (is_built script.settings) × StopsForMemory script.settings
+    script.commands replies
 IsOutcomeOfScript script other replies = ⊥
 
 -- These bytes were read to their end, and judged so.
 abbrev pub IsOutcomeOfBytes : List ℕ → Status → List Reply → Type 0
 IsOutcomeOfBytes bytes (BadScript number) replies = (script_of bytes ≡ Err number) × (replies ≡ [])
 IsOutcomeOfBytes bytes NoMemory [] = Unit {0}
-IsOutcomeOfBytes bytes status replies = (script : ParsedScript) × (script_of bytes ≡ Ok script) × IsOutcomeOfScript script status replies
+IsOutcomeOfBytes bytes status replies = (script : ParsedScript) × (script_of bytes ≡ Ok script) ×
+    IsOutcomeOfScript script status replies
 
 -- This status is due, with these replies: before anything is written.
 abbrev pub IsDue : List (List ℕ) → SourceState → SourceState → Status → List Reply → Type 0
@@ -117,7 +122,8 @@ IsWritten before now text due status = PutsAll before now text × (status ≡ du
 -- The program ended so: some status was due, and its text was written.
 abbrev pub EndsDue : List (List ℕ) → SourceState → SourceState → SinkState → SinkState → Status → List Reply → Type 0
 EndsDue words source_before source_now sink_before sink_now status replies =
-    (due : Status) × IsDue words source_before source_now due replies × IsWritten sink_before sink_now (status_text due replies) due status
+    (due : Status) × IsDue words source_before source_now due replies × IsWritten sink_before sink_now
+    (status_text due replies) due status
 
 -- ---- when each status comes, where the source tells its bytes
 

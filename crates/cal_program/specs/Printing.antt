@@ -15,9 +15,11 @@ pub record PutsToHeld (from now : SinkState) (held text : List ℕ) : Type 0 whe
 
 -- Since the sink was in the first state, this text was shown. Once the sink failed, what the buffer holds is dropped.
 abbrev pub HasPrinted : SinkState → BufferState → SinkState → List ℕ → Type 0
-HasPrinted from buffer now text = MatchBool buffer.failed (FailsWithin from now text) (PutsToHeld from now buffer.held text)
+HasPrinted from buffer now text = MatchBool buffer.failed (FailsWithin from now text)
+    (PutsToHeld from now buffer.held text)
 
 -- Whatever was shown before, this text follows it.
 abbrev pub Follows : BufferState → SinkState → BufferState → SinkState → List ℕ → Type 0
 Follows buffer sink buffer_now sink_now text =
-    (from : SinkState) (shown : List ℕ) → HasPrinted from buffer sink shown → HasPrinted from buffer_now sink_now (shown ++ text)
+    (from : SinkState) (shown : List ℕ) → HasPrinted from buffer sink shown →
+    HasPrinted from buffer_now sink_now (shown ++ text)

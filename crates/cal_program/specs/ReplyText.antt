@@ -14,7 +14,8 @@ abbrev pub slot_text : Slot → List ℕ
 slot_text slot = decimal slot.chunk ++ codes " " ++ decimal slot.segment ++ codes ":" ++ decimal slot.place
 
 abbrev pub count_text : declared_count.Count → List ℕ
-count_text c = spaced_words (decimal c.active ∷ decimal c.mapped ∷ decimal c.current ∷ decimal c.size ∷ decimal c.buckets ∷ [])
+count_text c = spaced_words
+    (decimal c.active ∷ decimal c.mapped ∷ decimal c.current ∷ decimal c.size ∷ decimal c.buckets ∷ [])
 
 abbrev pub refusal_name : Refusal → List ℕ
 refusal_name BadLayout = codes "BadLayout"

@@ -30,29 +30,30 @@ small_number_of word = do
 
 -- the ten words after `transport`
 abbrev pub settings_of_words : List (List ℕ) → Option Settings
-settings_of_words (size ∷ alignment ∷ count ∷ strategy ∷ buffer ∷ borrow ∷ overflow ∷ samples ∷ segments ∷ channels ∷ []) = do
-  size ← number_of size
-  alignment ← number_of alignment
-  count ← number_of count
-  strategy ← strategy_of strategy
-  buffer ← number_of buffer
-  borrow ← number_of borrow
-  overflow ← switch_of overflow
-  samples ← number_of samples
-  segments ← small_number_of segments
-  channels ← number_of channels
-  Some (record {
-    size = size;
-    alignment = alignment;
-    count = count;
-    strategy = strategy;
-    buffer = buffer;
-    borrow = borrow;
-    overflow = overflow;
-    samples = samples;
-    segments = segments;
-    channels = channels;
-  })
+settings_of_words (size ∷ alignment ∷ count ∷ strategy ∷ buffer ∷ borrow ∷ overflow ∷ samples ∷ segments ∷ channels ∷
+    []) = do
+      size ← number_of size
+      alignment ← number_of alignment
+      count ← number_of count
+      strategy ← strategy_of strategy
+      buffer ← number_of buffer
+      borrow ← number_of borrow
+      overflow ← switch_of overflow
+      samples ← number_of samples
+      segments ← small_number_of segments
+      channels ← number_of channels
+      Some (record {
+        size = size;
+        alignment = alignment;
+        count = count;
+        strategy = strategy;
+        buffer = buffer;
+        borrow = borrow;
+        overflow = overflow;
+        samples = samples;
+        segments = segments;
+        channels = channels;
+      })
 settings_of_words others = None
 
 abbrev pub settings_named : List (List ℕ) → Option Settings

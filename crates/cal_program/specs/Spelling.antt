@@ -39,8 +39,10 @@ switch_word false = codes "off"
 
 -- the settings line
 abbrev pub settings_line : Settings → List ℕ
-settings_line s = spaced_words (codes "transport" ∷ decimal s.size ∷ decimal s.alignment ∷ decimal s.count ∷ strategy_word s.strategy
-    ∷ decimal s.buffer ∷ decimal s.borrow ∷ switch_word s.overflow ∷ decimal s.samples ∷ decimal s.segments ∷ decimal s.channels ∷ [])
+settings_line s = spaced_words
+    (codes "transport" ∷ decimal s.size ∷ decimal s.alignment ∷ decimal s.count ∷ strategy_word s.strategy
+    ∷ decimal s.buffer ∷ decimal s.borrow ∷ switch_word s.overflow ∷ decimal s.samples ∷ decimal s.segments ∷ decimal
+    s.channels ∷ [])
 
 -- the command line
 abbrev pub command_line : Command → List ℕ
@@ -48,7 +50,8 @@ command_line (Loan size alignment) = spaced_words (codes "loan" ∷ decimal size
 command_line (Write chunk at bytes) = spaced_words (codes "write" ∷ decimal chunk ∷ decimal at ∷ hex bytes ∷ [])
 command_line (Send channel chunk) = spaced_words (codes "send" ∷ decimal channel ∷ decimal chunk ∷ [])
 command_line (Receive channel) = spaced_words (codes "receive" ∷ decimal channel ∷ [])
-command_line (Read channel chunk at length) = spaced_words (codes "read" ∷ decimal channel ∷ decimal chunk ∷ decimal at ∷ decimal length ∷ [])
+command_line (Read channel chunk at length) =
+    spaced_words (codes "read" ∷ decimal channel ∷ decimal chunk ∷ decimal at ∷ decimal length ∷ [])
 command_line (Release channel chunk) = spaced_words (codes "release" ∷ decimal channel ∷ decimal chunk ∷ [])
 command_line (Reclaim channel) = spaced_words (codes "reclaim" ∷ decimal channel ∷ [])
 command_line (Discard chunk) = spaced_words (codes "discard" ∷ decimal chunk ∷ [])
@@ -60,7 +63,8 @@ abbrev pub IsWord : ℕ → Type 0
 IsWord n = n < 2 ^ 64
 
 abbrev pub HasSettingsSpelling : Settings → Type 0
-HasSettingsSpelling s = IsWord s.size × IsWord s.alignment × IsWord s.count × IsWord s.buffer × IsWord s.borrow × IsWord s.samples
+HasSettingsSpelling s = IsWord s.size × IsWord s.alignment × IsWord s.count × IsWord s.buffer × IsWord s.borrow ×
+    IsWord s.samples
     × (s.segments < 2 ^ 8) × IsWord s.channels
 
 abbrev pub HasSpelling : Command → Type 0

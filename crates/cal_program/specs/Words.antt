@@ -42,7 +42,8 @@ begins_well (digit ∷ next ∷ digits) = not (digit == 48)
 -- the number that a word stands for
 abbrev pub number_of : List ℕ → Option ℕ
 number_of word =
-    if begins_well word && all_ascii_digits word && nat_lt (digits_value 10 word) (2 ^ 64) then Some (digits_value 10 word) else None
+    if begins_well word && all_ascii_digits word && nat_lt (digits_value 10 word) (2 ^ 64) then Some
+    (digits_value 10 word) else None
 
 -- a number up to a limit
 abbrev pub at_most : ℕ → ℕ → Option ℕ
@@ -80,4 +81,5 @@ bytes_of_letters (high ∷ low ∷ letters) = do
 -- the bytes that a word stands for: a dash stands for none
 abbrev pub bytes_of : List ℕ → Option (List ℕ)
 bytes_of [] = None
-bytes_of (letter ∷ letters) = if bytes_eq (letter ∷ letters) (codes "-") then Some [] else bytes_of_letters (letter ∷ letters)
+bytes_of (letter ∷ letters) = if bytes_eq (letter ∷ letters) (codes "-") then Some []
+    else bytes_of_letters (letter ∷ letters)

@@ -18,14 +18,18 @@ same_number : (k number : ℕ) → k / 64 ≡ number / 64 → k % 64 ≡ number 
 same_number k number q r = omega (arith, q, r)
 
 -- where one bit of one word is changed, the bit of one number is
-module _ (words : List ℕ) (number word : ℕ) (mark : Bool) (within : number / 64 < length words) (here : is_bit_set word (number % 64) ≡ mark) (others : (i : ℕ) → i < 64 → i ≢ number % 64 → is_bit_set word i ≡ is_bit_set (get_or words (number / 64) 0) i) where
+module _ (words : List ℕ) (number word : ℕ) (mark : Bool) (within : number / 64 < length words)
+    (here : is_bit_set word (number % 64) ≡ mark)
+    (others : (i : ℕ) → i < 64 → i ≢ number % 64 →
+    is_bit_set word i ≡ is_bit_set (get_or words (number / 64) 0) i) where
   pub changed-same : has_bit (set words (number / 64) word) number ≡ mark
   changed-same = ap (λ n. is_bit_set n (number % 64)) (get_or-set_same words (number / 64) word 0 within) ∙ here
 
   pub changed-other : (k : ℕ) → k ≢ number → has_bit (set words (number / 64) word) k ≡ has_bit words k
   changed-other k apart = from (cases_eq (k / 64) (number / 64))
     where
-      from : (k / 64 ≡ number / 64) ⊎ (k / 64 ≢ number / 64) → has_bit (set words (number / 64) word) k ≡ has_bit words k
+      from : (k / 64 ≡ number / 64) ⊎ (k / 64 ≢ number / 64) →
+          has_bit (set words (number / 64) word) k ≡ has_bit words k
       from (inl same) =
           ap (λ i. is_bit_set (get_or (set words (number / 64) word) i 0) (k % 64)) same
           ∙ ap (λ n. is_bit_set n (k % 64)) (get_or-set_same words (number / 64) word 0 within)
@@ -49,7 +53,8 @@ set-has_bit words number within k = from (cases_eq k number)
     here = ap (λ b. b == 1) (bit_at_set_same w64 (get_or words (number / 64) 0) (number % 64) small)
 
     others : (i : ℕ) → i < 64 → i ≢ number % 64 → is_bit_set word i ≡ is_bit_set (get_or words (number / 64) 0) i
-    others i below apart = ap (λ b. b == 1) (bit_at_set_other w64 (get_or words (number / 64) 0) (number % 64) small i apart)
+    others i below apart = ap
+        (λ b. b == 1) (bit_at_set_other w64 (get_or words (number / 64) 0) (number % 64) small i apart)
 
     from : (k ≡ number) ⊎ (k ≢ number) → has_bit (set words (number / 64) word) k ≡ (k == number || has_bit words k)
     from (inl same) =
@@ -62,7 +67,8 @@ set-has_bit words number within k = from (cases_eq k number)
 
 -- a bit is cleared
 pub clear-has_bit : (words : List ℕ) (number : ℕ) → number / 64 < length words → (k : ℕ) →
-    has_bit (set words (number / 64) (bit_and (get_or words (number / 64) 0) (bit_not w64 (1 * 2 ^ (number % 64) % 2 ^ 64)))) k
+    has_bit (set words (number / 64)
+    (bit_and (get_or words (number / 64) 0) (bit_not w64 (1 * 2 ^ (number % 64) % 2 ^ 64)))) k
     ≡ (not (k == number) && has_bit words k)
 clear-has_bit words number within k = from (cases_eq k number)
   where
@@ -76,12 +82,15 @@ clear-has_bit words number within k = from (cases_eq k number)
     here = ap (λ b. b == 1) (bit_at_clear_same w64 (get_or words (number / 64) 0) (number % 64) small)
 
     others : (i : ℕ) → i < 64 → i ≢ number % 64 → is_bit_set word i ≡ is_bit_set (get_or words (number / 64) 0) i
-    others i below apart = ap (λ b. b == 1) (bit_at_clear_other w64 (get_or words (number / 64) 0) (number % 64) small i below apart)
+    others i below apart = ap
+        (λ b. b == 1) (bit_at_clear_other w64 (get_or words (number / 64) 0) (number % 64) small i below apart)
 
-    from : (k ≡ number) ⊎ (k ≢ number) → has_bit (set words (number / 64) word) k ≡ (not (k == number) && has_bit words k)
+    from : (k ≡ number) ⊎ (k ≢ number) →
+        has_bit (set words (number / 64) word) k ≡ (not (k == number) && has_bit words k)
     from (inl same) =
         let test : (k == number) ≡ true = grind (arith, nat_tests) in
-        ap (λ n. has_bit (set words (number / 64) word) n) same ∙ changed-same words number word false within here others
+        ap (λ n. has_bit (set words (number / 64) word) n) same
+        ∙ changed-same words number word false within here others
         ∙ ap (λ t. not t && has_bit words k) (sym test)
     from (inr apart) =
         let test : (k == number) ≡ false = grind (arith, nat_tests) in
@@ -90,7 +99,8 @@ clear-has_bit words number within k = from (cases_eq k number)
 -- ---- the first set bit of a word
 
 bit_at-shifted : (word k i : ℕ) → bit_at (word / 2 ^ k) i ≡ bit_at word (k + i)
-bit_at-shifted word k i = ap (λ n. n % 2) (div-div-eq-div-mul word (2 ^ k) (2 ^ i) ∙ ap (λ n. word / n) (sym (pow-add 2 k i)))
+bit_at-shifted word k i = ap
+    (λ n. n % 2) (div-div-eq-div-mul word (2 ^ k) (2 ^ i) ∙ ap (λ n. word / n) (sym (pow-add 2 k i)))
 
 -- a bit from one on is one of the word shifted so far
 shifted_to : (word from k : ℕ) → from ≤ k → bit_at (word / 2 ^ from) (k - from) ≡ bit_at word k
@@ -111,7 +121,8 @@ first_in_word-IsFirst word from small some =
     record {
       not_before = omega arith;
       passes = ap (λ b. b == 1) (sym (bit_at-shifted word from (trailing_zeros w64 rest)) ∙ lowest.1);
-      first = λ k above before. ap (λ b. b == 1) (sym (shifted_to word from k above) ∙ lowest.2 (k - from) (omega arith));
+      first = λ k above before. ap
+          (λ b. b == 1) (sym (shifted_to word from k above) ∙ lowest.2 (k - from) (omega arith));
     }
 
 -- it is one of the word's bits
@@ -140,12 +151,14 @@ IsPassed-start words from = record {
 }
 
 -- a number in a word
-in_word : (words : List ℕ) (index k word : ℕ) → word ≡ get_or words index 0 → k / 64 ≡ index → has_bit words k ≡ is_bit_set word (k % 64)
+in_word : (words : List ℕ) (index k word : ℕ) → word ≡ get_or words index 0 → k / 64 ≡ index →
+    has_bit words k ≡ is_bit_set word (k % 64)
 in_word words index k word is there =
     ap (λ i. is_bit_set (get_or words i 0) (k % 64)) there ∙ ap (λ n. is_bit_set n (k % 64)) (sym is)
 
 -- the word holds none from the bit on
-pub IsPassed-next : (words : List ℕ) (from index bit word : ℕ) → IsPassed words from index bit → word ≡ get_or words index 0 →
+pub IsPassed-next : (words : List ℕ) (from index bit word : ℕ) → IsPassed words from index bit →
+    word ≡ get_or words index 0 →
     IsFirstFrom (is_bit_set word) bit None → IsPassed words from (index + 1) 0
 IsPassed-next words from index bit word passed is none = record {
   within = omega arith;
@@ -153,14 +166,16 @@ IsPassed-next words from index bit word passed is none = record {
   none = λ k above below. by_cases k above below (cases_lt k (index * 64 + bit));
 }
   where
-    by_cases : (k : ℕ) → from ≤ k → k < (index + 1) * 64 + 0 → (k < index * 64 + bit) ⊎ (index * 64 + bit ≤ k) → has_bit words k ≡ false
+    by_cases : (k : ℕ) → from ≤ k → k < (index + 1) * 64 + 0 → (k < index * 64 + bit) ⊎ (index * 64 + bit ≤ k) →
+        has_bit words k ≡ false
     by_cases k above below (inl before) = passed.none k above before
     by_cases k above below (inr after) =
         let there : k / 64 ≡ index = omega arith in
         in_word words index k word is there ∙ none (k % 64) (omega arith)
 
 -- the word holds one from the bit on
-pub IsPassed-found : (words : List ℕ) (from index bit word found : ℕ) → IsPassed words from index bit → word ≡ get_or words index 0 →
+pub IsPassed-found : (words : List ℕ) (from index bit word found : ℕ) → IsPassed words from index bit →
+    word ≡ get_or words index 0 →
     found < 64 → IsFirst (is_bit_set word) bit found → IsFirst (has_bit words) from (index * 64 + found)
 IsPassed-found words from index bit word found passed is within first = record {
   not_before = let r = passed.reached in let b = first.not_before in omega arith;
@@ -171,7 +186,8 @@ IsPassed-found words from index bit word found passed is within first = record {
   first = λ k above below. by_cases k above below (cases_lt k (index * 64 + bit));
 }
   where
-    by_cases : (k : ℕ) → from ≤ k → k < index * 64 + found → (k < index * 64 + bit) ⊎ (index * 64 + bit ≤ k) → has_bit words k ≡ false
+    by_cases : (k : ℕ) → from ≤ k → k < index * 64 + found → (k < index * 64 + bit) ⊎ (index * 64 + bit ≤ k) →
+        has_bit words k ≡ false
     by_cases k above below (inl before) = passed.none k above before
     by_cases k above below (inr after) =
         let there : k / 64 ≡ index = omega arith in
@@ -185,4 +201,5 @@ IsPassed-end words from index bit passed end k above = by_cases (cases_lt k (ind
     by_cases : (k < index * 64 + bit) ⊎ (index * 64 + bit ≤ k) → has_bit words k ≡ false
     by_cases (inl before) = passed.none k above before
     by_cases (inr after) =
-        ap (λ n. is_bit_set n (k % 64)) (get_or_past words (k / 64) 0 (omega arith)) ∙ ap (λ b. b == 1) (bit_at-zero (k % 64))
+        ap (λ n. is_bit_set n (k % 64)) (get_or_past words (k / 64) 0 (omega arith)) ∙ ap
+        (λ b. b == 1) (bit_at-zero (k % 64))

@@ -30,7 +30,8 @@ new_ring-fits capacity words some sized read written = record {
   };
 }
 
-module _ (capacity : ℕ) (words : List ℕ) (writer : PutPass) (reader : GetPass) (fits : Fits capacity words writer reader) where
+module _ (capacity : ℕ) (words : List ℕ) (writer : PutPass) (reader : GetPass)
+    (fits : Fits capacity words writer reader) where
   abbrev W : WordsFit capacity words writer.put (length reader.got)
   W = fits.words_fit
 
@@ -93,7 +94,8 @@ module _ (capacity : ℕ) (words : List ℕ) (writer : PutPass) (reader : GetPas
         let seen = X.read_within in
         let near = X.to_put_room value pending in
         let within = W.read_within in record {
-          words_fit = WordsFit-written capacity words writer.put (length reader.got) W value (X.to_put_in_slot value pending);
+          words_fit = WordsFit-written capacity words writer.put (length reader.got) W value
+              (X.to_put_in_slot value pending);
           values_fit = record {
             some_room = V.some_room;
             got_first = V.got_first ∙ sym (take-append-le (length reader.got) writer.put (value ∷ []) within);

@@ -26,20 +26,29 @@ pub KeepsLast-none : (buffer : ℕ) (copy : List ℕ) → length copy ≡ buffer
 KeepsLast-none buffer copy size = (size, λ p below near. absurd (omega arith))
 
 -- one more value at its index
-pub KeepsLast-more : (buffer : ℕ) (sent copy : List ℕ) (index value : ℕ) → KeepsLast buffer sent copy → index ≡ length sent % (buffer + 1)
+pub KeepsLast-more : (buffer : ℕ) (sent copy : List ℕ) (index value : ℕ) → KeepsLast buffer sent copy →
+    index ≡ length sent % (buffer + 1)
     → KeepsLast buffer (sent ++ value ∷ []) (set copy index value)
-KeepsLast-more buffer sent copy index value keeps is = (length-set copy index value ∙ keeps.0, λ p below near. ⊎_elim (old p near) (last p below) (cases_lt p (length sent)))
+KeepsLast-more buffer sent copy index value keeps is = (
+  length-set copy index value ∙ keeps.0,
+  λ p below near.
+      ⊎_elim (old p near) (last p below) (cases_lt p (length sent)),
+)
   where
     long : length (sent ++ value ∷ []) ≡ length sent + 1
     long = length-append sent (value ∷ [])
 
-    old : (p : ℕ) → length (sent ++ value ∷ []) ≤ p + buffer + 1 → p < length sent → get_or (set copy index value) (p % (buffer + 1)) 0 ≡ get_or (sent ++ value ∷ []) p 0
+    old : (p : ℕ) → length (sent ++ value ∷ []) ≤ p + buffer + 1 → p < length sent →
+        get_or (set copy index value) (p % (buffer + 1)) 0 ≡ get_or (sent ++ value ∷ []) p 0
     old p near below =
         let size = long in
-        let apart : p % (buffer + 1) ≢ index = λ e. let one = one_turn p (length sent) (buffer + 1) (omega arith) (omega arith) (e ∙ is) in absurd (omega arith) in
-        get_or-set_other copy index (p % (buffer + 1)) value 0 apart ∙ keeps.1 p below (omega arith) ∙ sym (get_or_append_left sent (value ∷ []) 0 p below)
+        let apart : p % (buffer + 1) ≢ index = λ e. let one = one_turn p (length sent) (buffer + 1) (omega arith)
+        (omega arith) (e ∙ is) in absurd (omega arith) in
+        get_or-set_other copy index (p % (buffer + 1)) value 0 apart ∙ keeps.1 p below (omega arith)
+        ∙ sym (get_or_append_left sent (value ∷ []) 0 p below)
 
-    last : (p : ℕ) → p < length (sent ++ value ∷ []) → length sent ≤ p → get_or (set copy index value) (p % (buffer + 1)) 0 ≡ get_or (sent ++ value ∷ []) p 0
+    last : (p : ℕ) → p < length (sent ++ value ∷ []) → length sent ≤ p →
+        get_or (set copy index value) (p % (buffer + 1)) 0 ≡ get_or (sent ++ value ∷ []) p 0
     last p below past =
         let size = long in
         let here : p ≡ length sent = omega arith in
@@ -50,23 +59,29 @@ KeepsLast-more buffer sent copy index value keeps is = (length-set copy index va
         ∙ sym (ap (λ (k : ℕ). get_or (sent ++ value ∷ []) k 0) here ∙ get_or_at sent value [] 0 (length sent) refl)
 
 -- the oldest value that the copy has lies at the index of the next position
-pub KeepsLast-oldest : (buffer : ℕ) (sent copy : List ℕ) (index position : ℕ) → KeepsLast buffer sent copy → index ≡ length sent % (buffer + 1) → length sent ≡ position + buffer + 1
+pub KeepsLast-oldest : (buffer : ℕ) (sent copy : List ℕ) (index position : ℕ) → KeepsLast buffer sent copy →
+    index ≡ length sent % (buffer + 1) → length sent ≡ position + buffer + 1
     → get_or copy index 0 ≡ get_or sent position 0
 KeepsLast-oldest buffer sent copy index position keeps is full =
     let turn : length sent ≡ position + (buffer + 1) = omega arith in
-    let at : index ≡ position % (buffer + 1) = is ∙ ap (λ (k : ℕ). k % (buffer + 1)) turn ∙ index-turn position (buffer + 1) (omega arith) in
+    let at : index ≡ position % (buffer + 1) = is ∙ ap (λ (k : ℕ). k % (buffer + 1)) turn
+    ∙ index-turn position (buffer + 1) (omega arith) in
     ap (λ (k : ℕ). get_or copy k 0) at ∙ keeps.1 position (omega arith) (omega arith)
 
 -- so the sender reads it there once a value more was sent into a full ring
-pub oldest-read : (buffer : ℕ) (sent copy : List ℕ) (index next position value oldest : ℕ) → KeepsLast buffer sent copy → index ≡ length sent % (buffer + 1) → next ≡ (length sent + 1) % (buffer + 1)
+pub oldest-read : (buffer : ℕ) (sent copy : List ℕ) (index next position value oldest : ℕ) →
+    KeepsLast buffer sent copy → index ≡ length sent % (buffer + 1) → next ≡ (length sent + 1) % (buffer + 1)
     → length sent ≡ position + buffer → oldest ≡ get_or (set copy index value) next oldest
     → (oldest ≡ get_or (sent ++ value ∷ []) position 0) × (slice_get (sent ++ value ∷ []) position ≡ Some oldest)
 oldest-read buffer sent copy index next position value oldest keeps is is_next full read =
     let keeps' = KeepsLast-more buffer sent copy index value keeps is in
     let long = length-append sent (value ∷ []) in
-    let next' : next ≡ length (sent ++ value ∷ []) % (buffer + 1) = is_next ∙ ap (λ (k : ℕ). k % (buffer + 1)) (sym long) in
+    let next' : next ≡ length (sent ++ value ∷ []) % (buffer + 1) = is_next ∙ ap
+    (λ (k : ℕ). k % (buffer + 1)) (sym long) in
     let low = mod_below (length sent + 1) (buffer + 1) (omega arith) in
     let size = keeps'.0 in
     let value_is : oldest ≡ get_or (sent ++ value ∷ []) position 0 =
-    read ∙ get_or_default (set copy index value) next oldest 0 (omega arith) ∙ KeepsLast-oldest buffer (sent ++ value ∷ []) (set copy index value) next position keeps' next' (omega arith) in
+    read ∙ get_or_default (set copy index value) next oldest 0 (omega arith)
+    ∙ KeepsLast-oldest buffer (sent ++ value ∷ []) (set copy index value) next position keeps' next'
+    (omega arith) in
     (value_is, slice_get-get_or (sent ++ value ∷ []) position 0 (omega arith) ∙ ap (λ (v : ℕ). Some v) (sym value_is))

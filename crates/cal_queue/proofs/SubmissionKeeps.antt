@@ -40,7 +40,8 @@ new_ring-fits buffer words sized read written = record {
   };
 }
 
-module _ (buffer : ℕ) (words : List ℕ) (writer : SendPass) (reader : TakePass) (tags : List Tag) (fits : Fits buffer words writer reader tags) where
+module _ (buffer : ℕ) (words : List ℕ) (writer : SendPass) (reader : TakePass) (tags : List Tag)
+    (fits : Fits buffer words writer reader tags) where
   abbrev slots : ℕ
   slots = buffer + 1
 
@@ -120,7 +121,8 @@ module _ (buffer : ℕ) (words : List ℕ) (writer : SendPass) (reader : TakePas
     not_full : full ≡ false → length writer.sent ≢ writer.seen_read + buffer
     not_full f e = false≢true (sym f ∙ eq-eqb _ _ (e ∙ ap (λ (k : ℕ). writer.seen_read + k) (sym X.sized)))
 
-    published_fits : Fits buffer published (record writer { sent = grown; to_send = None; exchange_due = full }) reader tags
+    published_fits : Fits buffer published (record writer { sent = grown; to_send = None; exchange_due = full }) reader
+        tags
     published_fits = let long : length grown ≡ length writer.sent + 1 = length-append writer.sent (value ∷ []) in
         let seen = X.read_within in
         let near = X.to_send_room value pending in record {

@@ -89,11 +89,15 @@ module _ (b : Bounds) (m : RingMoment) (c : RingState) (shows : Represents b.buf
   looks_at_slot : (write : Option ℕ) → m.reader.seen_write ≡ write
       → (ahead : Bool) → is_ahead m.reader.seen_read write ≡ ahead
       → Leads []
-      (cond ahead (record m { reader = after_slot_look (get_or m.words (slot_of (b.buffer + 1) m.reader.seen_read) 0) m.reader }) m)
+      (cond ahead (record m {
+        reader = after_slot_look (get_or m.words (slot_of (b.buffer + 1) m.reader.seen_read) 0)
+            m.reader;
+      }) m)
   looks_at_slot None seen true is = absurd (false≢true is)
   looks_at_slot None seen false is = unchanged m refl F
   looks_at_slot (Some write) seen true is = unchanged _ refl
-      (keeps.reader_loads_slot-fits b.buffer m.words m.writer m.reader c.tags F write seen (ltb-below m.reader.seen_read write is))
+      (keeps.reader_loads_slot-fits b.buffer m.words m.writer m.reader c.tags F write seen
+      (ltb-below m.reader.seen_read write is))
     where
       ltb-below : (x y : ℕ) → ltb x y ≡ true → x < y
       ltb-below x y t = grind (arith, t)

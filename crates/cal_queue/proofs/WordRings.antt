@@ -17,27 +17,34 @@ mod_wraps_once count index below = elim (cases_lt index count) [
   | inr high ↦ inr (high, mod-eq-sub-mod high ∙ mod-eq_of_lt (omega arith))
 ]
 
-module _ (count read waiting : ℕ) (words : List ℕ) (within : read < count) (few : waiting ≤ count) (long : length words ≡ count) where
+module _ (count read waiting : ℕ) (words : List ℕ) (within : read < count) (few : waiting ≤ count)
+    (long : length words ≡ count) where
   -- there are so many
   pub length-words_from : length (words_from read waiting words) ≡ waiting
   length-words_from =
-      length-take-le waiting _ (simp (length-append, length-drop) (omega (arith, length-take-le read words (omega arith))))
+      length-take-le waiting _ (simp (length-append, length-drop)
+      (omega (arith, length-take-le read words (omega arith))))
 
   -- the value at an index is in the word so far after the read index, around the end
-  get_or-words_from : (i d : ℕ) → i < waiting → get_or (words_from read waiting words) i d ≡ get_or words ((read + i) % count) d
+  get_or-words_from : (i d : ℕ) → i < waiting →
+      get_or (words_from read waiting words) i d ≡ get_or words ((read + i) % count) d
   get_or-words_from i d below =
       let tail = length-drop read words in
       get_or-take waiting _ i d below ∙ elim (mod_wraps_once count (read + i) (omega arith)) [
-        | inl before ↦ get_or_append_left _ _ d i (omega arith) ∙ get_or-drop read words i d ∙ ap (λ j. get_or words j d) (omega arith)
+        | inl before ↦ get_or_append_left _ _ d i (omega arith) ∙ get_or-drop read words i d ∙ ap
+            (λ j. get_or words j d) (omega arith)
         | inr after ↦
-            get_or-append_right _ _ (count - read) i d (omega arith) (omega arith) ∙ get_or-take read words _ d (omega arith)
+            get_or-append_right _ _ (count - read) i d (omega arith) (omega arith)
+            ∙ get_or-take read words _ d (omega arith)
             ∙ ap (λ j. get_or words j d) (omega arith)
       ]
 
-module _ (count read waiting : ℕ) (words : List ℕ) (within : read < count) (few : waiting ≤ count) (long : length words ≡ count) where
+module _ (count read waiting : ℕ) (words : List ℕ) (within : read < count) (few : waiting ≤ count)
+    (long : length words ≡ count) where
   -- a value that is written to the word after the last that waits is the last
   pub words_from-push : (value : ℕ) → waiting < count →
-      words_from read (waiting + 1) (set words ((read + waiting) % count) value) ≡ words_from read waiting words ++ value ∷ []
+      words_from read (waiting + 1) (set words ((read + waiting) % count) value) ≡ words_from read waiting words ++
+      value ∷ []
   words_from-push value room =
       let after = set words ((read + waiting) % count) value in
       let long_after = length-set words ((read + waiting) % count) value ∙ long in
@@ -74,7 +81,8 @@ module _ (count read waiting : ℕ) (words : List ℕ) (within : read < count) (
 -- ---- the queue
 
 -- after a push
-pub queue_of-push : (a : Inside) (q : Queue) (write value : ℕ) → IsRing a → queue_of a ≡ q → length q.values < q.capacity →
+pub queue_of-push : (a : Inside) (q : Queue) (write value : ℕ) → IsRing a → queue_of a ≡ q →
+    length q.values < q.capacity →
     write ≡ (a.read + a.waiting) % length a.words.items →
     queue_of (record a { words = with_item a.words write value; waiting = a.waiting + 1 }) ≡ after_push q value
 queue_of-push a q write value ring view_is room at_end =
@@ -82,8 +90,10 @@ queue_of-push a q write value ring view_is room at_end =
     let waits = length-words_from (length words) a.read a.waiting words ring.read ring.waiting refl in
     let values = ap (λ (m : Queue). length m.values) view_is in
     let capacity = ap (λ (m : Queue). m.capacity) view_is in
-    let joined = words_from-push (length words) a.read a.waiting words ring.read ring.waiting refl value (omega arith) in
-    let after : words_from a.read (a.waiting + 1) (set words write value) ≡ words_from a.read a.waiting words ++ value ∷ [] =
+    let joined = words_from-push (length words) a.read a.waiting words ring.read ring.waiting refl value
+    (omega arith) in
+    let after : words_from a.read (a.waiting + 1) (set words write value) ≡ words_from a.read a.waiting words ++ value ∷
+    [] =
     ap (λ n. words_from a.read (a.waiting + 1) (set words n value)) at_end ∙ joined in
     ap₂ (λ vs n. record { values = vs; capacity = n }) after (length-set words write value)
     ∙ ap (λ (m : Queue). after_push m value) view_is

@@ -7,9 +7,11 @@ use Rattle.cal_queue.specs.FirstFrom.{IsFirst, IsFirstFrom}
 use Rattle.cal_queue.specs.UsedChunks.{contains, members, members_from, next_member}
 
 -- a number is one of them, or isn't
-pub members_from-next : (marks : List Bool) (start : ℕ) (mark : Bool) → start < length marks → get_or marks start false ≡ mark →
+pub members_from-next : (marks : List Bool) (start : ℕ) (mark : Bool) → start < length marks →
+    get_or marks start false ≡ mark →
     members_from (record { marks = marks }) start
-    ≡ cond mark (start ∷ members_from (record { marks = marks }) (start + 1)) (members_from (record { marks = marks }) (start + 1))
+    ≡ cond mark (start ∷ members_from (record { marks = marks }) (start + 1))
+    (members_from (record { marks = marks }) (start + 1))
 members_from-next marks start mark below is =
     let test = contains (record { marks = marks }) in
     let rest = members_from (record { marks = marks }) (start + 1) in
@@ -17,13 +19,15 @@ members_from-next marks start mark below is =
     ap (λ (n : ℕ). filter test (range_with_len start n)) count ∙ ap (λ (c : Bool). cond c (start ∷ rest) rest) is
 
 -- there are none from the capacity on
-pub members_from-end : (marks : List Bool) (start : ℕ) → length marks ≤ start → members_from (record { marks = marks }) start ≡ []
+pub members_from-end : (marks : List Bool) (start : ℕ) → length marks ≤ start →
+    members_from (record { marks = marks }) start ≡ []
 members_from-end marks start past =
     let count : length marks - start ≡ 0 = omega arith in
     ap (λ (n : ℕ). filter (contains (record { marks = marks })) (range_with_len start n)) count
 
 -- all of them are those from 0 on
-pub members_from-start : (marks : List Bool) → members (record { marks = marks }) ≡ members_from (record { marks = marks }) 0
+pub members_from-start : (marks : List Bool) →
+    members (record { marks = marks }) ≡ members_from (record { marks = marks }) 0
 members_from-start marks =
     let count : length marks ≡ length marks - 0 = omega arith in
     ap (λ (n : ℕ). filter (contains (record { marks = marks })) (range_with_len 0 n)) count
@@ -55,7 +59,8 @@ member-within marks number is = from (cases_lt number (length marks))
     from (inr past) = absurd (false≢true (sym (get_or_past marks number false past) ∙ is))
 
 -- the first one from a number on, and those after it
-pub members_from-first : (marks : List Bool) (start number : ℕ) → IsFirst (contains (record { marks = marks })) start number →
+pub members_from-first : (marks : List Bool) (start number : ℕ) →
+    IsFirst (contains (record { marks = marks })) start number →
     members_from (record { marks = marks }) start ≡ number ∷ members_from (record { marks = marks }) (number + 1)
 members_from-first marks start number first =
     let within = member-within marks number first.passes in
@@ -75,7 +80,9 @@ members_from-none marks start none = from (cases_lt start (length marks))
 
 -- so the first one is the one that the list tells
 pub next_member-is : (marks : List Bool) (start : ℕ) (number : Option ℕ) →
-    IsFirstFrom (contains (record { marks = marks })) start number → number ≡ next_member (record { marks = marks }) start
-next_member-is marks start None none = ap (λ (numbers : List ℕ). slice_get numbers 0) (sym (members_from-none marks start none))
+    IsFirstFrom (contains (record { marks = marks })) start number →
+    number ≡ next_member (record { marks = marks }) start
+next_member-is marks start None none = ap
+    (λ (numbers : List ℕ). slice_get numbers 0) (sym (members_from-none marks start none))
 next_member-is marks start (Some number) first =
     ap (λ (numbers : List ℕ). slice_get numbers 0) (sym (members_from-first marks start number first))

@@ -1,4 +1,5 @@
-//! What a used list does on its words. A number's bit is that of its remainder by 64, in the word of its quotient by 64.
+//! What a used list does on its words. A number's bit is that of its remainder by 64, in the word of its quotient by
+//! 64.
 ghost use Rattle.std.specs.Prelude.{◌≡◌, ◌<◌, ◌≤◌, ◌^◌, ◌/◌, ◌||◌, ◌&&◌, ◌==◌, ℕ, length, not, replicate, IfSome};
 ghost use Rattle.cal_queue.specs.BitSet.{has_bit, is_bit_set};
 ghost use Rattle.cal_queue.specs.FirstFrom.{IsFirstFrom};

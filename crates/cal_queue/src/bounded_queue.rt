@@ -13,8 +13,8 @@ pub(crate) struct BoundedQueue {
     words: Vec<u64>,
     /// The index of the word in which the oldest value waits, where one does; below the number of words.
     read: usize,
-    /// How many values wait: in the words from the read index on, and then from the first one on. At most as many as there
-    /// are words.
+    /// How many values wait: in the words from the read index on, and then from the first one on. At most as many as
+    /// there are words.
     waiting: usize,
 }
 

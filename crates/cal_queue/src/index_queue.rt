@@ -2,8 +2,8 @@
 //! may rely on the order, on a refusal exactly where the queue is full, and on a push that takes
 //! no memory.
 //!
-//! Stands for `spsc::index_queue` of iceoryx2-bb-lock-free, which `zero_copy_connection/common.rs` of iceoryx2-cal 0.9.3
-//! stands on.
+//! Stands for `spsc::index_queue` of iceoryx2-bb-lock-free, which `zero_copy_connection/common.rs` of iceoryx2-cal
+//! 0.9.3 stands on.
 ghost use Rattle.std.specs.Prelude.{◌≡◌, ◌≤◌, length, not, IfOk};
 ghost use Rattle.std.specs.Bool.{OnTrue, OnFalse};
 ghost use Rattle.cal_queue.specs.Queue.{IsBounded, empty, is_empty, is_full, oldest, after_pop, after_push};

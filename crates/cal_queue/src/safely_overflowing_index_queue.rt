@@ -2,8 +2,8 @@
 //! full, the oldest number leaves and is given back. The layer above may rely on the order, on
 //! losing no number unseen, and on a push that takes no memory.
 //!
-//! Stands for `spsc::safely_overflowing_index_queue` of iceoryx2-bb-lock-free, which `zero_copy_connection/common.rs` of
-//! iceoryx2-cal 0.9.3 stands on.
+//! Stands for `spsc::safely_overflowing_index_queue` of iceoryx2-bb-lock-free, which `zero_copy_connection/common.rs`
+//! of iceoryx2-cal 0.9.3 stands on.
 ghost use Rattle.std.specs.Prelude.{◌≡◌, ◌≤◌, ◌↔◌, length, IfOk, IsSome, IsTrue};
 ghost use Rattle.cal_queue.specs.Queue.{IsBounded, empty, is_empty, is_full, oldest, after_pop, after_push, overflow_of, with_room};
 

@@ -1,7 +1,7 @@
-//! A set of numbers below a capacity, by which a sender keeps track of the chunks that are in use. The layer above may rely
-//! on each call changing the number that it names and no other, and on `remove_all` and a walk by `next` meeting each number
-//! in use once, the lowest first. A call on one number touches one word of 64 bits, and a walk costs the words and the
-//! members.
+//! A set of numbers below a capacity, by which a sender keeps track of the chunks that are in use. The layer above may
+//! rely on each call changing the number that it names and no other, and on `remove_all` and a walk by `next` meeting
+//! each number in use once, the lowest first. A call on one number touches one word of 64 bits, and a walk costs the
+//! words and the members.
 //!
 //! Ported from `zero_copy_connection/used_chunk_list.rs` of iceoryx2-cal 0.9.3.
 ghost use Rattle.std.specs.Prelude.{◌≡◌, ◌<◌, not, IfOk};
@@ -18,8 +18,8 @@ use std::mem;
 /// A set of numbers below a capacity that is chosen when it is made.
 #[derive(Debug, Drop)]
 pub struct UsedChunkList {
-    /// A bit for each number below the capacity, set where it is a member: number n's is bit n % 64 of word n / 64. The bits
-    /// of the last word from the capacity on are clear.
+    /// A bit for each number below the capacity, set where it is a member: number n's is bit n % 64 of word n / 64. The
+    /// bits of the last word from the capacity on are clear.
     words: Vec<u64>,
     /// The number that all members are below.
     capacity: usize,
@@ -62,8 +62,8 @@ impl UsedChunkList {
         })
     }
 
-    /// The memory that is reckoned for a set below `capacity`: a byte for each number, as the original's takes. This set's
-    /// words take an eighth of it.
+    /// The memory that is reckoned for a set below `capacity`: a byte for each number, as the original's takes. This
+    /// set's words take an eighth of it.
     pub const fn const_memory_size(capacity: usize) -> usize
         ensures bytes { result ≡ capacity }
     {

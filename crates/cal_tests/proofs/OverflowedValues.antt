@@ -20,4 +20,4 @@ overflowed-more value None before after sent = ⊎_elim
     sent
 overflowed-more value (Some oldest) before after sent =
     ap values_of sent.1.overflowed_last ∙ map-append
-        (λ (entry : ℕ × ℕ). entry.1) before.overflowed ((sent.1.position, oldest) ∷ [])
+    (λ (entry : ℕ × ℕ). entry.1) before.overflowed ((sent.1.position, oldest) ∷ [])

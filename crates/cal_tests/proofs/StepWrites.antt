@@ -20,13 +20,13 @@ pub writes-looked : (before after : StatePass) (index seen n : ℕ) → after �
     → writes before.steps ≡ n → writes after.steps ≡ n
 writes-looked before after index seen n is count =
     let more = ap (λ (p : StatePass). writes p.steps) is
-        ∙ writes-more before.steps (load_step index seen) in omega arith
+    ∙ writes-more before.steps (load_step index seen) in omega arith
 
 pub writes-wrote : (before after : StatePass) (index seen word n : ℕ) → after
     ≡ after_step before (write_step index seen word) → writes before.steps ≡ n → writes after.steps ≡ n + 1
 writes-wrote before after index seen word n is count =
     let more = ap (λ (p : StatePass). writes p.steps) is
-        ∙ writes-more before.steps (write_step index seen word) in omega arith
+    ∙ writes-more before.steps (write_step index seen word) in omega arith
 
 -- a step leaves the number of channels
 pub channels-kept : (before after : StatePass) (s : StateStep) → after ≡ after_step before s
@@ -37,7 +37,8 @@ channels-kept before after s is some = let same = ap (λ (p : StatePass). p.open
 adds-more : (before after : StatePass) (s : StateStep) → All (AddsOne 0) before.steps → after ≡ after_step before s
     → AddsOne 0 s → All (AddsOne 0) after.steps
 adds-more before after s adds is one =
-    subst (λ (p : StatePass). All (AddsOne 0) p.steps) (sym is) (All-append (AddsOne 0) before.steps (s ∷ []) adds (search (rules, one)))
+    subst (λ (p : StatePass). All (AddsOne 0) p.steps) (sym is)
+    (All-append (AddsOne 0) before.steps (s ∷ []) adds (search (rules, one)))
 
 pub adds-looked : (before after : StatePass) (seen : ℕ) → All (AddsOne 0) before.steps
     → after ≡ after_step before (load_step (channel_index 0) seen) → All (AddsOne 0) after.steps
@@ -45,5 +46,6 @@ adds-looked before after seen adds is = adds-more before after _ adds is (record
 
 pub adds-wrote : (before after : StatePass) (seen word : ℕ) → All (AddsOne 0) before.steps
     → after ≡ after_step before (write_step (channel_index 0) seen word) → word ≡ (seen + 1) % 2 ^ 64
-        → All (AddsOne 0) after.steps
-adds-wrote before after seen word adds is more = adds-more before after _ adds is (record { index = refl; written = more })
+    → All (AddsOne 0) after.steps
+adds-wrote before after seen word adds is more =
+    adds-more before after _ adds is (record { index = refl; written = more })

@@ -30,22 +30,28 @@ not_false false e = sym e
 
 -- ---- marks
 
-pub mark_here : (pool : Pool) (bucket : ℕ) (mark : Bool) → bucket < length pool.used → is_used (with_mark pool bucket mark) bucket ≡ mark
+pub mark_here : (pool : Pool) (bucket : ℕ) (mark : Bool) → bucket < length pool.used →
+    is_used (with_mark pool bucket mark) bucket ≡ mark
 mark_here pool bucket mark within = get_or-set_same pool.used bucket mark false within
 
-pub mark_else : (pool : Pool) (bucket other : ℕ) (mark : Bool) → other ≢ bucket → is_used (with_mark pool bucket mark) other ≡ is_used pool other
+pub mark_else : (pool : Pool) (bucket other : ℕ) (mark : Bool) → other ≢ bucket →
+    is_used (with_mark pool bucket mark) other ≡ is_used pool other
 mark_else pool bucket other mark apart = get_or-set_other pool.used bucket other mark false apart
 
-pub inserted_here : (used : UsedChunks) (value : ℕ) → value < capacity_of used → contains (after_insertion used value) value ≡ true
+pub inserted_here : (used : UsedChunks) (value : ℕ) → value < capacity_of used →
+    contains (after_insertion used value) value ≡ true
 inserted_here used value within = get_or-set_same used.marks value true false within
 
-pub inserted_else : (used : UsedChunks) (value other : ℕ) → other ≢ value → contains (after_insertion used value) other ≡ contains used other
+pub inserted_else : (used : UsedChunks) (value other : ℕ) → other ≢ value →
+    contains (after_insertion used value) other ≡ contains used other
 inserted_else used value other apart = get_or-set_other used.marks value other true false apart
 
-pub removed_here : (used : UsedChunks) (value : ℕ) → value < capacity_of used → contains (after_removal used value) value ≡ false
+pub removed_here : (used : UsedChunks) (value : ℕ) → value < capacity_of used →
+    contains (after_removal used value) value ≡ false
 removed_here used value within = get_or-set_same used.marks value false false within
 
-pub removed_else : (used : UsedChunks) (value other : ℕ) → other ≢ value → contains (after_removal used value) other ≡ contains used other
+pub removed_else : (used : UsedChunks) (value other : ℕ) → other ≢ value →
+    contains (after_removal used value) other ≡ contains used other
 removed_else used value other apart = get_or-set_other used.marks value other false false apart
 
 -- ---- pointers
@@ -55,7 +61,8 @@ offset_of-pointer offset = omega arith
 
 pub bucket_of-pointer : (pool : Pool) (bucket : ℕ) → 1 ≤ pool.buckets.size →
     bucket_of pool (pointer_offset (bucket * pool.buckets.size) 0) ≡ bucket
-bucket_of-pointer pool bucket size = ap (λ n. n / pool.buckets.size) (offset_of-pointer (bucket * pool.buckets.size)) ∙ mul-div_cancel bucket size
+bucket_of-pointer pool bucket size = ap (λ n. n / pool.buckets.size) (offset_of-pointer (bucket * pool.buckets.size))
+    ∙ mul-div_cancel bucket size
 
 -- a marked bucket's pointer is one that the pool takes back
 pub pointer_used : (pool : Pool) (bucket : ℕ) → 1 ≤ pool.buckets.size → is_used pool bucket ≡ true →
@@ -73,7 +80,8 @@ after_deallocation-pointer pool bucket size = ap (λ b. with_mark pool b false) 
 
 -- the bucket of a name is that of the chunk that has it, where none before it does
 pub bucket_named-at : (chunks : List Chunk) (i : ℕ) (chunk : Chunk) → slice_get chunks i ≡ Some chunk →
-    ((j : ℕ) (x : Chunk) → slice_get chunks j ≡ Some x → j ≢ i → x.name ≢ chunk.name) → bucket_named chunks chunk.name ≡ chunk.bucket
+    ((j : ℕ) (x : Chunk) → slice_get chunks j ≡ Some x → j ≢ i → x.name ≢ chunk.name) →
+    bucket_named chunks chunk.name ≡ chunk.bucket
 bucket_named-at [] i chunk e apart = absurd (none-some chunk e)
 bucket_named-at (x ∷ chunks) zero chunk e apart =
     let here = same_Some x chunk e in
@@ -100,9 +108,11 @@ pub record HasMark (old new : Pool) (bucket : ℕ) (mark : Bool) : Type 0 where
 pub kept_or_freed : (pool : Pool) (bucket value : ℕ) (kept : Bool) → 1 ≤ pool.buckets.size → bucket < length pool.used →
     is_used pool bucket ≡ true → value ≡ pointer_offset (bucket * pool.buckets.size) 0 →
     HasMark pool (cond kept pool (after_deallocation pool value)) bucket kept
-kept_or_freed pool bucket value true size within used e = record { ready = refl; buckets = refl; long = refl; here = used; else = λ other apart. refl }
+kept_or_freed pool bucket value true size within used e =
+    record { ready = refl; buckets = refl; long = refl; here = used; else = λ other apart. refl }
 kept_or_freed pool bucket value false size within used e =
-    let freed : after_deallocation pool value ≡ with_mark pool bucket false = ap (after_deallocation pool) e ∙ after_deallocation-pointer pool bucket size in
+    let freed : after_deallocation pool value ≡ with_mark pool bucket false = ap (after_deallocation pool) e
+    ∙ after_deallocation-pointer pool bucket size in
     record {
       ready = refl;
       buckets = refl;

@@ -32,14 +32,16 @@ names_rise records i j rising lt within =
 comparisons_rise : (records : List ChunkRecord) (name : ℕ) → AreRising records →
     IsNonDecreasingBy (λ entry. ordering_index (nat_cmp entry.name name)) records
 comparisons_rise records name rising =
-    IsNonDecreasingBy-from_default (λ entry. ordering_index (nat_cmp entry.name name)) records no_entry (λ i j le within.
+    IsNonDecreasingBy-from_default (λ entry. ordering_index (nat_cmp entry.name name)) records no_entry
+    (λ i j le within.
     (let names : name_at records i ≤ name_at records j =
     grind (arith, names_rise records i j rising, λ (same : i ≡ j). ap (name_at records) same) in
     grind (arith, nat_tests)))
 
 pub has_no_record : (records : List ChunkRecord) (name at : ℕ) → AreRising records →
     (IsNonDecreasingBy (λ entry. ordering_index (nat_cmp entry.name name)) records →
-    IsPartitionPoint (λ entry. nat_cmp entry.name name ≡ Less) (λ entry. nat_cmp entry.name name ≡ Greater) records at) →
+    IsPartitionPoint (λ entry. nat_cmp entry.name name ≡ Less) (λ entry. nat_cmp entry.name name ≡ Greater) records at)
+    →
     HasNoRecord records name
 has_no_record records name at rising parted i entry e same =
     let parts = parted (comparisons_rise records name rising) in

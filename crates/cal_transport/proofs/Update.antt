@@ -15,9 +15,11 @@ use Rattle.cal_transport.proofs.Names.{is_in_transit-weight}
 
 -- ---- what the parts show of chunks
 
-pub record_at : (p : Parts) (w : LedgerRest) (i : ℕ) (chunk : Chunk) → AgreesWith p w → slice_get w.chunks i ≡ Some chunk →
+pub record_at : (p : Parts) (w : LedgerRest) (i : ℕ) (chunk : Chunk) → AgreesWith p w →
+    slice_get w.chunks i ≡ Some chunk →
     slice_get p.records i ≡ Some (record_of w.channel chunk)
-record_at p w i chunk h e = ap (λ records. slice_get records i) h.records ∙ slice_get-map (record_of w.channel) w.chunks i ∙ ap (option_map (record_of w.channel)) e
+record_at p w i chunk h e = ap (λ records. slice_get records i) h.records
+    ∙ slice_get-map (record_of w.channel) w.chunks i ∙ ap (option_map (record_of w.channel)) e
 
 -- chunks at two places have two names
 pub names_apart : (p : Parts) (w : LedgerRest) (i j : ℕ) (a b : Chunk) → AgreesWith p w →
@@ -26,11 +28,15 @@ names_apart p w i j a b h first second apart same =
     let x = record_at p w i a h first in let y = record_at p w j b h second in
     let below : i < j → a.name < b.name = h.rising i j (record_of w.channel a) (record_of w.channel b) x y in
     let above : j < i → b.name < a.name = h.rising j i (record_of w.channel b) (record_of w.channel a) y x in
-    elim (cases_lt i j) [ inl first_below ↦ omega (arith, below first_below) | inr not_below ↦ omega (arith, above (omega arith)) ]
+    elim (cases_lt i j) [
+      | inl first_below ↦ omega (arith, below first_below)
+      | inr not_below ↦ omega (arith, above (omega arith))
+    ]
 
 -- live chunks at two places have two buckets
 pub buckets_apart : (p : Parts) (w : LedgerRest) (i j : ℕ) (a b : Chunk) → AgreesWith p w →
-    slice_get w.chunks i ≡ Some a → slice_get w.chunks j ≡ Some b → is_live_on w.channel a ≡ true → is_live_on w.channel b ≡ true →
+    slice_get w.chunks i ≡ Some a → slice_get w.chunks j ≡ Some b → is_live_on w.channel a ≡ true →
+    is_live_on w.channel b ≡ true →
     i ≢ j → a.bucket ≢ b.bucket
 buckets_apart p w i j a b h first second alive living apart same =
     let x = (h.housed i a first alive).owner in let y = (h.housed j b second living).owner in
@@ -52,7 +58,8 @@ pub record Changes (p p' : Parts) (w : LedgerRest) (i : ℕ) (old new : Chunk) (
   pub use_of : old.bucket < p.settings.samples → contains p'.used old.bucket ≡ is_in_transit c old.name
   pub no_use : is_live_on c new ≡ false → contains p'.used old.bucket ≡ false
   pub other_bytes : (bucket : ℕ) → bucket ≢ old.bucket → bucket < p.pool.buckets.count →
-      bytes_at p'.memory (bucket * p.pool.buckets.size) p.pool.buckets.size ≡ bytes_at p.memory (bucket * p.pool.buckets.size) p.pool.buckets.size
+      bytes_at p'.memory (bucket * p.pool.buckets.size) p.pool.buckets.size ≡
+      bytes_at p.memory (bucket * p.pool.buckets.size) p.pool.buckets.size
   pub bytes : bytes_at p'.memory (old.bucket * p.pool.buckets.size) p.pool.buckets.size ≡ new.bytes
   pub submissions : p'.submissions.values ≡ map (pointer_to p.pool.buckets.size w.chunks) (queued_names c)
   pub completions : p'.completions.values ≡ map (pointer_to p.pool.buckets.size w.chunks) (completed_names c)
@@ -80,16 +87,20 @@ bucket_named-set (chunk ∷ chunks) zero old new name e same there =
 bucket_named-set (chunk ∷ chunks) (suc i) old new name e same there =
     rw (bucket_named-set chunks i old new name e same there) refl
 
-pub pointer_to-set : (size : ℕ) (chunks : List Chunk) (i : ℕ) (old new : Chunk) (names : List ℕ) → slice_get chunks i ≡ Some old →
-    new.name ≡ old.name → new.bucket ≡ old.bucket → map (pointer_to size (set chunks i new)) names ≡ map (pointer_to size chunks) names
+pub pointer_to-set : (size : ℕ) (chunks : List Chunk) (i : ℕ) (old new : Chunk) (names : List ℕ) →
+    slice_get chunks i ≡ Some old →
+    new.name ≡ old.name → new.bucket ≡ old.bucket →
+    map (pointer_to size (set chunks i new)) names ≡ map (pointer_to size chunks) names
 pointer_to-set size chunks i old new names e same there =
     map_agree (pointer_to size (set chunks i new)) (pointer_to size chunks) names
     (λ name. rw (bucket_named-set chunks i old new name e same there) refl)
 
-entry_agrees : (c c' : ChannelHistory) (chunk : Chunk) → is_borrowed c' chunk.name ≡ is_borrowed c chunk.name → record_of c chunk ≡ record_of c' chunk
+entry_agrees : (c c' : ChannelHistory) (chunk : Chunk) → is_borrowed c' chunk.name ≡ is_borrowed c chunk.name →
+    record_of c chunk ≡ record_of c' chunk
 entry_agrees c c' chunk e = rw e refl
 
-lives_agrees : (c c' : ChannelHistory) (chunk : Chunk) → weight c' chunk.name ≡ weight c chunk.name → is_live_on c' chunk ≡ is_live_on c chunk
+lives_agrees : (c c' : ChannelHistory) (chunk : Chunk) → weight c' chunk.name ≡ weight c chunk.name →
+    is_live_on c' chunk ≡ is_live_on c chunk
 lives_agrees c c' chunk e = rw (is_in_transit-weight c' chunk.name, is_in_transit-weight c chunk.name, e) refl
 
 -- ---- each part after the change
@@ -105,12 +116,14 @@ other_name : (p p' : Parts) (w : LedgerRest) (i : ℕ) (old new : Chunk) (c : Ch
     (j : ℕ) (chunk : Chunk) → j ≢ i → slice_get w.chunks j ≡ Some chunk → chunk.name ≢ old.name
 other_name p p' w i old new c t j chunk apart e = names_apart p w j i chunk old t.show e t.here apart
 
-entries_then : (p p' : Parts) (w : LedgerRest) (i : ℕ) (old new : Chunk) (c : ChannelHistory) → Then p p' w i old new c →
+entries_then : (p p' : Parts) (w : LedgerRest) (i : ℕ) (old new : Chunk) (c : ChannelHistory) →
+    Then p p' w i old new c →
     p'.records ≡ map (record_of c) (set w.chunks i new)
 entries_then p p' w i old new c t =
     t.change.records ∙ ap (λ records. set records i (record_of c new)) t.show.records
     ∙ map-set_agree (record_of w.channel) (record_of c) w.chunks i new
-    (λ j chunk apart e. entry_agrees w.channel c chunk (t.change.other_borrows chunk.name (other_name p p' w i old new c t j chunk apart e)))
+    (λ j chunk apart e. entry_agrees w.channel c chunk
+    (t.change.other_borrows chunk.name (other_name p p' w i old new c t j chunk apart e)))
 
 -- an entry after the change has the name that stood at its place
 name_stays : (p p' : Parts) (w : LedgerRest) (i : ℕ) (old new : Chunk) (c : ChannelHistory) → Then p p' w i old new c →
@@ -118,19 +131,22 @@ name_stays : (p p' : Parts) (w : LedgerRest) (i : ℕ) (old new : Chunk) (c : Ch
     (before : ChunkRecord) × (slice_get p.records j ≡ Some before) × (before.name ≡ entry.name)
 name_stays p p' w i old new c t j entry e =
     let at = record_at p w i old t.show t.here in
-    elim (written_or_old p.records i j entry (record_of c new) (record_of w.channel old) at (sym (ap (λ records. slice_get records j) t.change.records) ∙ e)) [
+    elim (written_or_old p.records i j entry (record_of c new) (record_of w.channel old) at
+    (sym (ap (λ records. slice_get records j) t.change.records) ∙ e)) [
       | inl written ↦ (record_of w.channel old, rw written.0 at, sym (ap (λ x. x.name) written.1 ∙ t.change.same_name))
       | inr kept ↦ (entry, kept.1, refl)
     ]
 
-rising_then : (p p' : Parts) (w : LedgerRest) (i : ℕ) (old new : Chunk) (c : ChannelHistory) → Then p p' w i old new c → AreRising p'.records
+rising_then : (p p' : Parts) (w : LedgerRest) (i : ℕ) (old new : Chunk) (c : ChannelHistory) → Then p p' w i old new c →
+    AreRising p'.records
 rising_then p p' w i old new c t j k first second a b below =
     let x = name_stays p p' w i old new c t j first a in
     let y = name_stays p p' w i old new c t k second b in
     let h = t.show.rising j k x.0 y.0 x.1 y.1 below in
     let ex = x.2 in let ey = y.2 in omega arith
 
-placed_same : (p p' : Parts) (old new : Chunk) → p'.pool.buckets ≡ p.pool.buckets → new.segment ≡ old.segment → new.bucket ≡ old.bucket →
+placed_same : (p p' : Parts) (old new : Chunk) → p'.pool.buckets ≡ p.pool.buckets → new.segment ≡ old.segment →
+    new.bucket ≡ old.bucket →
     length new.bytes ≡ length old.bytes → IsPlaced p old → IsPlaced p' new
 placed_same p p' old new buckets segment bucket long placed = record {
   segment = segment ∙ placed.segment;
@@ -142,18 +158,22 @@ placed_then : (p p' : Parts) (w : LedgerRest) (i : ℕ) (old new : Chunk) (c : C
     (j : ℕ) (chunk : Chunk) → slice_get (set w.chunks i new) j ≡ Some chunk → IsPlaced p' chunk
 placed_then p p' w i old new c t j chunk e = elim (written_or_old w.chunks i j chunk new old t.here e) [
   | inl written ↦ subst (IsPlaced p') (sym written.1)
-      (placed_same p p' old new t.change.buckets t.change.same_segment t.change.same_bucket t.change.same_length (t.show.placed i old t.here))
+      (placed_same p p' old new t.change.buckets t.change.same_segment t.change.same_bucket t.change.same_length
+      (t.show.placed i old t.here))
   | inr kept ↦ placed_same p p' chunk chunk t.change.buckets refl refl refl (t.show.placed j chunk kept.1)
 ]
 
 -- another live chunk was alive before, in another bucket
-lived_before : (p p' : Parts) (w : LedgerRest) (i : ℕ) (old new : Chunk) (c : ChannelHistory) → Then p p' w i old new c →
-    (j : ℕ) (chunk : Chunk) → j ≢ i → slice_get w.chunks j ≡ Some chunk → is_live_on c chunk ≡ is_live_on w.channel chunk
+lived_before : (p p' : Parts) (w : LedgerRest) (i : ℕ) (old new : Chunk) (c : ChannelHistory) →
+    Then p p' w i old new c →
+    (j : ℕ) (chunk : Chunk) → j ≢ i → slice_get w.chunks j ≡ Some chunk →
+    is_live_on c chunk ≡ is_live_on w.channel chunk
 lived_before p p' w i old new c t j chunk apart e =
     lives_agrees w.channel c chunk (t.change.other_weights chunk.name (other_name p p' w i old new c t j chunk apart e))
 
 housed_else : (p p' : Parts) (w : LedgerRest) (i : ℕ) (old new : Chunk) (c : ChannelHistory) → Then p p' w i old new c →
-    (j : ℕ) (chunk : Chunk) → j ≢ i → slice_get w.chunks j ≡ Some chunk → is_live_on c chunk ≡ true → HasBucket p' c j chunk
+    (j : ℕ) (chunk : Chunk) → j ≢ i → slice_get w.chunks j ≡ Some chunk → is_live_on c chunk ≡ true →
+    HasBucket p' c j chunk
 housed_else p p' w i old new c t j chunk apart e alive =
     let alive_before = sym (lived_before p p' w i old new c t j chunk apart e) ∙ alive in
     let there = buckets_apart p w j i chunk old t.show e t.here alive_before t.alive apart in
@@ -162,10 +182,12 @@ housed_else p p' w i old new c t j chunk apart e alive =
     record {
       marked = t.change.other_marks chunk.bucket there ∙ before.marked;
       owner = ap (λ record_indices. slice_get record_indices chunk.bucket) t.change.record_indices ∙ before.owner;
-      bytes = ap (λ b. bytes_at p'.memory (chunk.bucket * b.size) b.size) t.change.buckets ∙ t.change.other_bytes chunk.bucket there (t.show.placed j chunk e).bucket ∙ before.bytes;
+      bytes = ap (λ b. bytes_at p'.memory (chunk.bucket * b.size) b.size) t.change.buckets
+          ∙ t.change.other_bytes chunk.bucket there (t.show.placed j chunk e).bucket ∙ before.bytes;
       in_use = λ within. t.change.other_uses chunk.bucket there
           ∙ before.in_use (let s = ap (λ x. x.samples) t.change.settings in omega arith)
-          ∙ is_in_transit-weight w.channel chunk.name ∙ ap (nat_lt 0) (sym same_weight) ∙ sym (is_in_transit-weight c chunk.name);
+          ∙ is_in_transit-weight w.channel chunk.name ∙ ap (nat_lt 0) (sym same_weight)
+          ∙ sym (is_in_transit-weight c chunk.name);
     }
 
 housed_here : (p p' : Parts) (w : LedgerRest) (i : ℕ) (old new : Chunk) (c : ChannelHistory) → Then p p' w i old new c →
@@ -175,7 +197,8 @@ housed_here p p' w i old new c t alive =
     let there = t.change.same_bucket in
     record {
       marked = ap (is_used p'.pool) there ∙ t.change.mark ∙ alive;
-      owner = ap (slice_get p'.record_indices) there ∙ ap (λ record_indices. slice_get record_indices old.bucket) t.change.record_indices ∙ before.owner;
+      owner = ap (slice_get p'.record_indices) there ∙ ap
+          (λ record_indices. slice_get record_indices old.bucket) t.change.record_indices ∙ before.owner;
       bytes = ap (λ bucket. bytes_at p'.memory (bucket * p'.pool.buckets.size) p'.pool.buckets.size) there
           ∙ ap (λ b. bytes_at p'.memory (old.bucket * b.size) b.size) t.change.buckets ∙ t.change.bytes;
       in_use = λ within. ap (contains p'.used) there
@@ -184,14 +207,16 @@ housed_here p p' w i old new c t alive =
     }
 
 housed_then : (p p' : Parts) (w : LedgerRest) (i : ℕ) (old new : Chunk) (c : ChannelHistory) → Then p p' w i old new c →
-    (j : ℕ) (chunk : Chunk) → slice_get (set w.chunks i new) j ≡ Some chunk → is_live_on c chunk ≡ true → HasBucket p' c j chunk
+    (j : ℕ) (chunk : Chunk) → slice_get (set w.chunks i new) j ≡ Some chunk → is_live_on c chunk ≡ true →
+    HasBucket p' c j chunk
 housed_then p p' w i old new c t j chunk e alive = elim (written_or_old w.chunks i j chunk new old t.here e) [
   | inl written ↦ subst (λ k. HasBucket p' c k chunk) (sym written.0) (subst (HasBucket p' c i) (sym written.1)
       (housed_here p p' w i old new c t (ap (is_live_on c) (sym written.1) ∙ alive)))
   | inr kept ↦ housed_else p p' w i old new c t j chunk kept.0 kept.1 alive
 ]
 
-occupied_then : (p p' : Parts) (w : LedgerRest) (i : ℕ) (old new : Chunk) (c : ChannelHistory) (shown : Option ℕ) → Then p p' w i old new c →
+occupied_then : (p p' : Parts) (w : LedgerRest) (i : ℕ) (old new : Chunk) (c : ChannelHistory) (shown : Option ℕ) →
+    Then p p' w i old new c →
     (bucket : ℕ) → is_used p'.pool bucket ≡ true → IsOccupied (changed_shown w i new c shown) bucket
 occupied_then p p' w i old new c shown t bucket used = elim (same_or_apart bucket old.bucket) [
   | inl same ↦ record {
@@ -221,7 +246,8 @@ unused_then p p' w i old new c t bucket free = elim (same_or_apart bucket old.bu
   | inr apart ↦ t.change.other_uses bucket apart ∙ t.show.unused bucket (sym (t.change.other_marks bucket apart) ∙ free)
 ]
 
-known_then : (p p' : Parts) (w : LedgerRest) (i : ℕ) (old new : Chunk) (c : ChannelHistory) (shown : Option ℕ) → Then p p' w i old new c →
+known_then : (p p' : Parts) (w : LedgerRest) (i : ℕ) (old new : Chunk) (c : ChannelHistory) (shown : Option ℕ) →
+    Then p p' w i old new c →
     (name : ℕ) → 0 < weight c name → IsKnown p' (changed_shown w i new c shown) name
 known_then p p' w i old new c shown t name weighs = elim (same_or_apart name old.name) [
   | inl same ↦ record {
@@ -246,8 +272,10 @@ known_then p p' w i old new c shown t name weighs = elim (same_or_apart name old
 ]
 
 -- what the parts show after the change
-pub shows_changed : (p p' : Parts) (w : LedgerRest) (i : ℕ) (old new : Chunk) (c : ChannelHistory) (shown : Option ℕ) → AgreesWith p w →
-    slice_get w.chunks i ≡ Some old → is_live_on w.channel old ≡ true → Changes p p' w i old new c → AgreesWith p' (changed_shown w i new c shown)
+pub shows_changed : (p p' : Parts) (w : LedgerRest) (i : ℕ) (old new : Chunk) (c : ChannelHistory) (shown : Option ℕ) →
+    AgreesWith p w →
+    slice_get w.chunks i ≡ Some old → is_live_on w.channel old ≡ true → Changes p p' w i old new c →
+    AgreesWith p' (changed_shown w i new c shown)
 shows_changed p p' w i old new c shown h here alive change =
     let t : Then p p' w i old new c = record { show = h; here = here; alive = alive; change = change } in
     let size = ap (λ b. b.size) change.buckets in
@@ -255,9 +283,13 @@ shows_changed p p' w i old new c shown h here alive change =
       settings = subst AreBuilt (sym change.settings) h.settings;
       ready = change.ready;
       orderly = change.orderly;
-      submissions = change.submissions ∙ sym (pointer_to-set p.pool.buckets.size w.chunks i old new (queued_names c) here change.same_name change.same_bucket)
+      submissions = change.submissions
+          ∙ sym (pointer_to-set p.pool.buckets.size w.chunks i old new (queued_names c) here change.same_name
+          change.same_bucket)
           ∙ ap (λ n. map (pointer_to n (set w.chunks i new)) (queued_names c)) (sym size);
-      completions = change.completions ∙ sym (pointer_to-set p.pool.buckets.size w.chunks i old new (completed_names c) here change.same_name change.same_bucket)
+      completions = change.completions
+          ∙ sym (pointer_to-set p.pool.buckets.size w.chunks i old new (completed_names c) here change.same_name
+          change.same_bucket)
           ∙ ap (λ n. map (pointer_to n (set w.chunks i new)) (completed_names c)) (sym size);
       borrowed = change.borrowed;
       records = entries_then p p' w i old new c t;
@@ -278,7 +310,8 @@ pub transit_lives : (c : ChannelHistory) (chunk : Chunk) → 0 < weight c chunk.
 transit_lives c chunk weighs = rw (is_in_transit-weight c chunk.name) (grind (arith, nat_tests))
 
 -- a chunk in transit has a bucket that the connection can name
-pub bucket_within : (p : Parts) (w : LedgerRest) (i : ℕ) (chunk : Chunk) → AgreesWith p w → slice_get w.chunks i ≡ Some chunk →
+pub bucket_within : (p : Parts) (w : LedgerRest) (i : ℕ) (chunk : Chunk) → AgreesWith p w →
+    slice_get w.chunks i ≡ Some chunk →
     0 < weight w.channel chunk.name → chunk.bucket < p.settings.samples
 bucket_within p w i chunk h stands weighs =
     let k = h.known chunk.name weighs in

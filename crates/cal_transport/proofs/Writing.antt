@@ -32,12 +32,16 @@ write_rule-cause : (p : Parts) (w : LedgerRest) (chunk : Chunk) (at length : ℕ
     write_cause (ledger_of p w) (if_loaned (Some chunk)) at length ≡ write_rule p (record_of w.channel chunk) at length
 write_rule-cause p w chunk at length placed =
     elim chunk.loaned as (λ b. write_cause (ledger_of p w) (cond b (Some chunk) None) at length
-    ≡ cond (not b) (Some NotLoaned) (cond chunk.sent (Some WriteAfterSend) (cond (nat_lt p.pool.buckets.size (at + length)) (Some OutsideChunk) None))) [
-      | true ↦ ap (λ s. cond chunk.sent (Some WriteAfterSend) (cond (nat_lt (layout_at (ledger_of p w) s).size (at + length)) (Some OutsideChunk) None)) placed.segment
+    ≡ cond (not b) (Some NotLoaned)
+    (cond chunk.sent (Some WriteAfterSend)
+    (cond (nat_lt p.pool.buckets.size (at + length)) (Some OutsideChunk) None))) [
+      | true ↦ ap (λ s. cond chunk.sent (Some WriteAfterSend)
+          (cond (nat_lt (layout_at (ledger_of p w) s).size (at + length)) (Some OutsideChunk) None)) placed.segment
       | false ↦ refl
     ]
 
-write_cause_is : (p : Parts) (w : LedgerRest) (name at : ℕ) (bytes : List ℕ) (found : Found) → AgreesWith p w → IsFound p.records name found →
+write_cause_is : (p : Parts) (w : LedgerRest) (name at : ℕ) (bytes : List ℕ) (found : Found) → AgreesWith p w →
+    IsFound p.records name found →
     cause (ledger_of p w) (command.Write name at bytes) ≡ write_rule p found.entry at (length bytes)
 write_cause_is p w name at bytes found h is =
     let c = found_chunk p w name found h is in
@@ -45,9 +49,12 @@ write_cause_is p w name at bytes found h is =
     ∙ write_rule-cause p w c.chunk at (length bytes) (h.placed found.index c.chunk c.stands)
     ∙ ap (λ e. write_rule p e at (length bytes)) (sym c.entry_is)
 
-pub write_refused : (p : Parts) (name at : ℕ) (bytes : List ℕ) (found : Found) (refusal : Refusal) → IsFound p.records name found →
-    write_rule p found.entry at (length bytes) ≡ Some refusal → DoesAnywhere p (command.Write name at bytes) (Refused refusal) p
-write_refused p name at bytes found refusal is rule place = refused p place (command.Write name at bytes) refusal (λ w h.
+pub write_refused : (p : Parts) (name at : ℕ) (bytes : List ℕ) (found : Found) (refusal : Refusal) →
+    IsFound p.records name found →
+    write_rule p found.entry at (length bytes) ≡ Some refusal →
+    DoesAnywhere p (command.Write name at bytes) (Refused refusal) p
+write_refused p name at bytes found refusal is rule place = refused p place (command.Write name at bytes) refusal
+    (λ w h.
     write_cause_is p w name at bytes found h is ∙ rule)
 
 -- what a rule that accepts the entry has seen
@@ -55,27 +62,38 @@ pub record MayWrite (p : Parts) (entry : ChunkRecord) (at length : ℕ) : Type 0
   pub loaned : entry.loaned ≡ true
   pub within : at + length ≤ p.pool.buckets.size
 
-pub may_write : (p : Parts) (entry : ChunkRecord) (at length : ℕ) → write_rule p entry at length ≡ None → MayWrite p entry at length
-may_write p entry at length rule = go entry.loaned entry.sent (nat_lt p.pool.buckets.size (at + length)) refl refl refl rule
+pub may_write : (p : Parts) (entry : ChunkRecord) (at length : ℕ) → write_rule p entry at length ≡ None →
+    MayWrite p entry at length
+may_write p entry at length rule = go entry.loaned entry.sent (nat_lt p.pool.buckets.size (at + length)) refl refl refl
+    rule
   where
-    go : (loaned sent passes : Bool) → entry.loaned ≡ loaned → entry.sent ≡ sent → nat_lt p.pool.buckets.size (at + length) ≡ passes →
-        cond (not entry.loaned) (Some NotLoaned) (cond entry.sent (Some WriteAfterSend) (cond (nat_lt p.pool.buckets.size (at + length)) (Some OutsideChunk) None)) ≡ None →
+    go : (loaned sent passes : Bool) → entry.loaned ≡ loaned → entry.sent ≡ sent →
+        nat_lt p.pool.buckets.size (at + length) ≡ passes →
+        cond (not entry.loaned) (Some NotLoaned)
+        (cond entry.sent (Some WriteAfterSend)
+        (cond (nat_lt p.pool.buckets.size (at + length)) (Some OutsideChunk) None)) ≡ None →
         MayWrite p entry at length
     go loaned sent passes a b d e = record { loaned = grind (arith, nat_tests); within = grind (arith, nat_tests) }
 
 -- a write inside a bucket leaves the others
-pub other_bytes_written : (p : Parts) (bucket other at : ℕ) (bytes : List ℕ) → other ≢ bucket → other < p.pool.buckets.count →
+pub other_bytes_written : (p : Parts) (bucket other at : ℕ) (bytes : List ℕ) → other ≢ bucket →
+    other < p.pool.buckets.count →
     length p.memory ≡ p.pool.buckets.size * p.pool.buckets.count → at + length bytes ≤ p.pool.buckets.size →
     bucket * p.pool.buckets.size + at + length bytes ≤ length p.memory →
-    bytes_at (with_bytes p.memory (bucket * p.pool.buckets.size + at) bytes) (other * p.pool.buckets.size) p.pool.buckets.size
+    bytes_at (with_bytes p.memory (bucket * p.pool.buckets.size + at) bytes) (other * p.pool.buckets.size)
+    p.pool.buckets.size
     ≡ bytes_at p.memory (other * p.pool.buckets.size) p.pool.buckets.size
 other_bytes_written p bucket other at bytes apart below long within inside =
     let h : other + 1 ≤ p.pool.buckets.count = omega arith in
-    let there : other * p.pool.buckets.size + p.pool.buckets.size ≤ length p.memory = omega (arith, mul-le-mul_left p.pool.buckets.size h) in
-    bytes_outside p.memory (bucket * p.pool.buckets.size + at) bytes (other * p.pool.buckets.size) p.pool.buckets.size inside there
-    (elim (buckets_disjoint p.pool.buckets.size other bucket apart) [ inl behind ↦ inl (omega arith) | inr ahead ↦ inr (omega arith) ])
+    let there : other * p.pool.buckets.size + p.pool.buckets.size ≤ length p.memory =
+    omega (arith, mul-le-mul_left p.pool.buckets.size h) in
+    bytes_outside p.memory (bucket * p.pool.buckets.size + at) bytes (other * p.pool.buckets.size) p.pool.buckets.size
+    inside there
+    (elim (buckets_disjoint p.pool.buckets.size other bucket apart)
+    [ inl behind ↦ inl (omega arith) | inr ahead ↦ inr (omega arith) ])
 
-written_changes : (p : Parts) (w : LedgerRest) (i : ℕ) (chunk : Chunk) (at : ℕ) (bytes : List ℕ) → AgreesWith p w → slice_get w.chunks i ≡ Some chunk →
+written_changes : (p : Parts) (w : LedgerRest) (i : ℕ) (chunk : Chunk) (at : ℕ) (bytes : List ℕ) → AgreesWith p w →
+    slice_get w.chunks i ≡ Some chunk →
     chunk.loaned ≡ true → at + length bytes ≤ p.pool.buckets.size →
     Changes p (record p { memory = with_bytes p.memory (chunk.bucket * p.pool.buckets.size + at) bytes }) w i chunk
     (record chunk { bytes = with_bytes chunk.bytes at bytes }) w.channel
@@ -114,8 +132,10 @@ written_changes p w i chunk at bytes h stands loaned within =
       other_uses = λ bucket apart. refl;
       use_of = housed.in_use;
       no_use = λ dead. absurd (true≢false (sym alive ∙ dead));
-      other_bytes = λ bucket apart below. other_bytes_written p chunk.bucket bucket at bytes apart below h.ready.memory within inside;
-      bytes = bytes_inside p.memory at bytes place p.pool.buckets.size within there ∙ ap (λ b. with_bytes b at bytes) housed.bytes;
+      other_bytes = λ bucket apart below. other_bytes_written p chunk.bucket bucket at bytes apart below h.ready.memory
+          within inside;
+      bytes = bytes_inside p.memory at bytes place p.pool.buckets.size within there ∙ ap
+          (λ b. with_bytes b at bytes) housed.bytes;
       submissions = h.submissions;
       completions = h.completions;
       borrowed = h.borrowed;
@@ -134,7 +154,8 @@ pub written : (p : Parts) (name at : ℕ) (bytes : List ℕ) (found : Found) →
     DoesAnywhere p (command.Write name at bytes) Written
     (record p { memory = with_bytes p.memory (found.entry.bucket * p.pool.buckets.size + at) bytes })
 written p name at bytes found is rule place =
-    done p (record p { memory = with_bytes p.memory (found.entry.bucket * p.pool.buckets.size + at) bytes }) place (command.Write name at bytes) Written (λ w h.
+    done p (record p { memory = with_bytes p.memory (found.entry.bucket * p.pool.buckets.size + at) bytes }) place
+    (command.Write name at bytes) Written (λ w h.
     let c = found_chunk p w name found h is in
     let may = may_write p found.entry at (length bytes) rule in
     let bucket : found.entry.bucket ≡ c.chunk.bucket = ap (λ e. e.bucket) c.entry_is in
@@ -144,29 +165,38 @@ written p name at bytes found is rule place =
       none = write_cause_is p w name at bytes found h is ∙ rule;
       owes = refl;
       rest = changed_shown w found.index new w.channel w.opened_last;
-      made = ap (λ n. record (ledger_of p w) { chunks = with_changed_chunk (λ x. record x { bytes = with_bytes x.bytes at bytes }) n w.chunks }) (sym c.same_name)
+      made = ap (λ n. record (ledger_of p w)
+          { chunks = with_changed_chunk (λ x. record x { bytes = with_bytes x.bytes at bytes }) n w.chunks })
+          (sym c.same_name)
           ∙ ap (λ chunks. record (ledger_of p w) { chunks = chunks })
-          (changed_chunk-at w.chunks found.index c.chunk (λ x. record x { bytes = with_bytes x.bytes at bytes }) c.stands
+          (changed_chunk-at w.chunks found.index c.chunk
+          (λ x. record x { bytes = with_bytes x.bytes at bytes }) c.stands
           (λ j x there apart. names_apart p w j found.index x c.chunk h there c.stands apart));
-      show = (let Q : ℕ → Type 0 = λ b. AgreesWith (record p { memory = with_bytes p.memory (b * p.pool.buckets.size + at) bytes })
+      show = (let Q : ℕ → Type 0 = λ b.
+          AgreesWith (record p { memory = with_bytes p.memory (b * p.pool.buckets.size + at) bytes })
           (changed_shown w found.index new w.channel w.opened_last) in
-          subst Q (sym bucket) (shows_changed p (record p { memory = with_bytes p.memory (c.chunk.bucket * p.pool.buckets.size + at) bytes })
+          subst Q (sym bucket) (shows_changed p
+          (record p { memory = with_bytes p.memory (c.chunk.bucket * p.pool.buckets.size + at) bytes })
           w found.index c.chunk new w.channel w.opened_last h c.stands (loaned_lives w.channel c.chunk loaned)
           (written_changes p w found.index c.chunk at bytes h c.stands loaned may.within)));
     })
 
-pub written_to : (p : Parts) (name at : ℕ) (bytes : List ℕ) (found : Found) (memory : List ℕ) → IsFound p.records name found →
-    write_rule p found.entry at (length bytes) ≡ None → memory ≡ with_bytes p.memory (found.entry.bucket * p.pool.buckets.size + at) bytes →
+pub written_to : (p : Parts) (name at : ℕ) (bytes : List ℕ) (found : Found) (memory : List ℕ) →
+    IsFound p.records name found →
+    write_rule p found.entry at (length bytes) ≡ None →
+    memory ≡ with_bytes p.memory (found.entry.bucket * p.pool.buckets.size + at) bytes →
     DoesAnywhere p (command.Write name at bytes) Written (record p { memory = memory })
 written_to p name at bytes found memory is rule e =
-    subst (λ m. DoesAnywhere p (command.Write name at bytes) Written (record p { memory = m })) (sym e) (written p name at bytes found is rule)
+    subst (λ m. DoesAnywhere p (command.Write name at bytes) Written (record p { memory = m })) (sym e)
+    (written p name at bytes found is rule)
 
 -- where the bytes go: within the memory, at a small number
 pub record IsInMemory (p : Parts) (place size : ℕ) : Type 0 where
   pub below : place + size ≤ length p.memory
   pub small : length p.memory ≤ 2 ^ 56
 
-pub write_place : (p : Parts) (w : LedgerRest) (name at len : ℕ) (found : Found) → AgreesWith p w → IsFound p.records name found →
+pub write_place : (p : Parts) (w : LedgerRest) (name at len : ℕ) (found : Found) → AgreesWith p w →
+    IsFound p.records name found →
     write_rule p found.entry at len ≡ None → IsInMemory p (found.entry.bucket * p.pool.buckets.size + at) len
 write_place p w name at len found h is rule =
     let within = entry_within p w name found h is in

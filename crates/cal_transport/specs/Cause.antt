@@ -74,7 +74,8 @@ abbrev pub release_cause : Ledger → ℕ → ℕ → Option Refusal
 release_cause l channel name =
     if is_channel_outside l channel then Some OutsideConnection
     else if not (is_borrowed (history_on l channel) name) then Some NotBorrowed
-    else if nat_le (completion_size l.settings) (length (completed_names (history_on l channel))) then Some RetrieveBufferFull
+    else if nat_le (completion_size l.settings) (length (completed_names (history_on l channel))) then Some
+    RetrieveBufferFull
     else None
 
 abbrev pub reclaim_cause : Ledger → ℕ → Option Refusal

@@ -74,7 +74,8 @@ completed_names channel = drop (length channel.reclaimed) channel.released
 
 -- the receiver took the chunk more often than it gave it back
 abbrev pub is_borrowed : ChannelHistory → ℕ → Bool
-is_borrowed channel name = nat_lt (occurrences name channel.released) (occurrences name (received_names channel.departures))
+is_borrowed channel name =
+    nat_lt (occurrences name channel.released) (occurrences name (received_names channel.departures))
 
 abbrev pub borrow_count : ChannelHistory → ℕ
 borrow_count channel = length (received_names channel.departures) - length channel.released

@@ -46,7 +46,8 @@ abbrev pub UnborrowedOnAFullQueue : Type 0
 UnborrowedOnAFullQueue = IsRun (static_settings 3 1 1)
     (Loan 8 8 ∷ Loan 8 8 ∷ Loan 8 8 ∷ Send 0 1 ∷ Receive 0 ∷ Release 0 1 ∷ Send 0 2 ∷ Receive 0 ∷ Release 0 2 ∷ Send 0 3
     ∷ Receive 0 ∷ Release 0 3 ∷ Release 0 3 ∷ [])
-    (Loaned (slot 1 0 0) ∷ Loaned (slot 2 0 8) ∷ Loaned (slot 3 0 16) ∷ Sent None ∷ Received (Some (slot 1 0 0)) ∷ Released
+    (Loaned (slot 1 0 0) ∷ Loaned (slot 2 0 8) ∷ Loaned (slot 3 0 16) ∷ Sent None ∷ Received (Some (slot 1 0 0)) ∷
+    Released
     ∷ Sent None ∷ Received (Some (slot 2 0 8)) ∷ Released ∷ Sent None ∷ Received (Some (slot 3 0 16)) ∷ Released
     ∷ Refused NotBorrowed ∷ Transit 0 (slot 1 0 0) ∷ Transit 0 (slot 2 0 8) ∷ Transit 0 (slot 3 0 16) ∷ [])
 

@@ -50,7 +50,8 @@ ledger_of p w = record {
 -- how often a name is queued, borrowed or completed
 abbrev pub weight : ChannelHistory → ℕ → ℕ
 weight c name =
-    occurrences name (queued_names c) + (occurrences name (received_names c.departures) - occurrences name c.released) + occurrences name (completed_names c)
+    occurrences name (queued_names c) + (occurrences name (received_names c.departures) - occurrences name c.released) +
+    occurrences name (completed_names c)
 
 -- each chunk is on its way once at most, and nothing comes back that didn't go
 pub record IsOrderly (c : ChannelHistory) : Type 0 where
@@ -176,7 +177,8 @@ pub record Represents (p : Parts) (l : Ledger) : Type 0 where
   pub made : l ≡ ledger_of p rest
   pub show : AgreesWith p rest
 
--- whichever ledger the transport stood for, the reply answers the command there, and the transport stands for the ledger after it
+-- whichever ledger the transport stood for, the reply answers the command there, and the transport stands for the
+-- ledger after it
 abbrev pub Does : Parts → ℕ → Command → Reply → Parts → Type 0
 Does old place asked reply new = (l : Ledger) → Represents old l →
     IsStep l place asked reply × Represents new (after_step l place asked reply)

@@ -95,7 +95,8 @@ ReceiveDoes old channel (Err refusal) new = DoesAnywhere old (command.Receive ch
 -- a read changes nothing
 abbrev pub ReadDoes : Parts → ℕ → ℕ → ℕ → ℕ → Result (Bor (List ℕ)) Refusal → Type 0
 ReadDoes p channel name at length (Ok bytes) = DoesAnywhere p (command.Read channel name at length) (Shown bytes.now) p
-ReadDoes p channel name at length (Err refusal) = DoesAnywhere p (command.Read channel name at length) (Refused refusal) p
+ReadDoes p channel name at length (Err refusal) = DoesAnywhere p (command.Read channel name at length) (Refused refusal)
+    p
 
 abbrev pub ReleaseDoes : Parts → ℕ → ℕ → Result (Unit {0}) Refusal → Parts → Type 0
 ReleaseDoes old channel name (Ok done) new = DoesAnywhere old (command.Release channel name) Released new

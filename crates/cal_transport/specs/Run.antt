@@ -18,7 +18,8 @@ use Rattle.cal_transport.specs.Step.{IsStep, after_step, slot_of}
 -- the chunks in transit on a channel that have this bucket: one at most
 abbrev pub transit_at : Ledger → ℕ → ℕ → ℕ → List Chunk
 transit_at l channel segment bucket =
-    filter (λ chunk. chunk.segment == segment && chunk.bucket == bucket && is_in_transit (history_on l channel) chunk.name) l.chunks
+    filter (λ chunk. chunk.segment == segment && chunk.bucket == bucket && is_in_transit (history_on l channel)
+    chunk.name) l.chunks
 
 -- the chunks in transit on a channel, by segment and bucket
 abbrev pub transit_on : Ledger → ℕ → List Chunk
@@ -69,7 +70,8 @@ StopsAt P l place (asked ∷ commands) (reply ∷ replies) =
 -- the command is one that takes memory: a loan that needs a segment, or a read of some bytes
 abbrev pub TakesMemory : Ledger → Command → Type 0
 TakesMemory l (command.Loan size alignment) = IsTrue (needs_segment (current_segment l) size alignment)
-TakesMemory l (command.Read channel name at length) = (0 < length) × (cause l (command.Read channel name at length) ≡ None)
+TakesMemory l (command.Read channel name at length) =
+    (0 < length) × (cause l (command.Read channel name at length) ≡ None)
 TakesMemory l asked = ⊥
 
 -- memory ran out while the transport was made, or at a command that takes some
@@ -97,6 +99,7 @@ StopsUnbuilt settings commands replies =
 -- why there is no run
 abbrev pub HasError : Settings → List Command → RunError → Type 0
 HasError settings commands (Create found) = create_cause settings ≡ Some found
-HasError settings commands (NotBuilt replies) = (create_cause settings ≡ None) × StopsUnbuilt settings commands replies.items
+HasError settings commands (NotBuilt replies) = (create_cause settings ≡ None) × StopsUnbuilt settings commands
+    replies.items
 HasError settings commands (NoMemory replies) =
     (create_cause settings ≡ None) × IsTrue (is_built settings) × StopsForMemory settings commands replies.items

@@ -83,7 +83,8 @@ history_after_send channel name back = record channel {
 
 -- the receiver takes a chunk from the queue, if there is one
 abbrev pub history_after_receive : ChannelHistory → Option ℕ → ChannelHistory
-history_after_receive channel taken = record channel { departures = channel.departures ++ map ByReceive (option_to_list taken) }
+history_after_receive channel taken =
+    record channel { departures = channel.departures ++ map ByReceive (option_to_list taken) }
 
 -- the receiver gives a chunk back
 abbrev pub history_after_release : ChannelHistory → ℕ → ChannelHistory
@@ -115,12 +116,15 @@ after_command l place (command.Write name at bytes) reply =
     with_chunk l name (λ chunk. record chunk { bytes = with_bytes chunk.bytes at bytes })
 after_command l place (command.Send channel name) reply =
     let history = history_on l channel in
-    with_chunk (with_history l channel (history_after_send history name (name_sent_back l history))) name (λ chunk. record chunk { sent = true })
+    with_chunk (with_history l channel (history_after_send history name (name_sent_back l history))) name
+    (λ chunk. record chunk { sent = true })
 after_command l place (command.Receive channel) reply =
     let history = history_on l channel in
     let taken = front (queued_names history) in
-    record (with_history l channel (history_after_receive history taken)) { opened_last = opened_after_receive l (chunk_to_receive l taken) }
-after_command l place (command.Release channel name) reply = with_history l channel (history_after_release (history_on l channel) name)
+    record (with_history l channel (history_after_receive history taken))
+    { opened_last = opened_after_receive l (chunk_to_receive l taken) }
+after_command l place (command.Release channel name) reply =
+    with_history l channel (history_after_release (history_on l channel) name)
 after_command l place (command.Reclaim channel) reply =
     let history = history_on l channel in
     with_history l channel (history_after_reclaim history (front (completed_names history)))
@@ -134,7 +138,8 @@ after_command l place command.Count reply = l
 abbrev pub is_free_place : Ledger → ℕ → Bool
 is_free_place l place =
     let buckets = layout_at l (current l) in
-    place % buckets.size == 0 && nat_lt (place / buckets.size) buckets.count && is_free l (current l) (place / buckets.size)
+    place % buckets.size == 0 && nat_lt (place / buckets.size) buckets.count && is_free l (current l)
+    (place / buckets.size)
 
 -- the loan is in any free bucket of the current segment
 abbrev pub IsLoan : Ledger → ℕ → Reply → Type 0
@@ -160,10 +165,12 @@ abbrev pub Owes : Ledger → ℕ → Command → Reply → Type 0
 Owes l place (command.Loan size alignment) reply = IsLoan (grown_ledger l size alignment) place reply
 Owes l place (command.Write name at bytes) reply = reply ≡ Written
 Owes l place (command.Send channel name) reply = reply ≡ Sent (slot_named l (name_sent_back l (history_on l channel)))
-Owes l place (command.Receive channel) reply = reply ≡ Received (slot_named l (front (queued_names (history_on l channel))))
+Owes l place (command.Receive channel) reply =
+    reply ≡ Received (slot_named l (front (queued_names (history_on l channel))))
 Owes l place (command.Read channel name at length) reply = reply ≡ Shown (bytes_of_chunk (chunk_named l name) at length)
 Owes l place (command.Release channel name) reply = reply ≡ Released
-Owes l place (command.Reclaim channel) reply = reply ≡ Reclaimed (slot_named l (front (completed_names (history_on l channel))))
+Owes l place (command.Reclaim channel) reply =
+    reply ≡ Reclaimed (slot_named l (front (completed_names (history_on l channel))))
 Owes l place (command.Discard name) reply = reply ≡ Discarded
 Owes l place command.Count reply = reply ≡ Counted (count_of l)
 

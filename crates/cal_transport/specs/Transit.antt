@@ -7,7 +7,8 @@ use Rattle.cal_transport.specs.declared.reply.Reply.TheVariants.{Transit}
 use Rattle.cal_transport.specs.ChunkRecord.{LeadsToRecord}
 
 -- each used bucket below the limit leads to an entry
-pub record LeadUsed (used : UsedChunks) (records : List ChunkRecord) (record_indices : List ℕ) (limit : ℕ) : Type 0 where
+pub record LeadUsed (used : UsedChunks) (records : List ChunkRecord) (record_indices : List ℕ) (limit : ℕ) : Type
+    0 where
   pub capacity : limit ≤ capacity_of used
   pub leads : (bucket : ℕ) → bucket < limit → contains used bucket ≡ true → LeadsToRecord records record_indices bucket
 
@@ -23,4 +24,5 @@ record_of_index records (Some index) = slice_get records index
 -- the reply that tells of a bucket's chunk, where it is in transit
 abbrev pub transit_reply : UsedChunks → List ChunkRecord → List ℕ → ℕ → ℕ → List Reply
 transit_reply used records record_indices size bucket =
-    if contains used bucket then reply_of (record_of_index records (slice_get record_indices bucket)) (bucket * size) else []
+    if contains used bucket then reply_of (record_of_index records (slice_get record_indices bucket)) (bucket * size)
+    else []

@@ -35,8 +35,8 @@ impl PutSeat {
         self.written += 1;
     }
 
-    /// Puts a value after all others. A ring that a look showed full is `Full`. Once 2^64 - 1 values were put the refusal
-    /// is `PositionsUsedUp`, without a look. Either refusal leaves the ring as it was.
+    /// Puts a value after all others. A ring that a look showed full is `Full`. Once 2^64 - 1 values were put the
+    /// refusal is `PositionsUsedUp`, without a look. Either refusal leaves the ring as it was.
     pub fn push(&mut self, value: u64) -> Result<(), PushRefusal>
         ensures same_end { SamePutEnd self.old self.new }
         ensures is_push { IsPush value result (put_pass self.old) (put_pass self.new) }

@@ -6,5 +6,7 @@ pub returns-in-PowerOfTwo : goal.returns-in-PowerOfTwo
 returns-in-PowerOfTwo c =
     let power = c.next_power_of_two.ensures in
     record {
-      value = rw c.in-PowerOfTwo.is (sym (least_power_of_two-is (c.args.count + 1) c.next_power_of_two.result (power.power, power.lower_bound, power.upper_bound)));
+      value = rw c.in-PowerOfTwo.is
+          (sym (least_power_of_two-is (c.args.count + 1) c.next_power_of_two.result
+          (power.power, power.lower_bound, power.upper_bound)));
     }

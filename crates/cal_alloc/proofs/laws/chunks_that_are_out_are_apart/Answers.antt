@@ -6,12 +6,14 @@ pub returns-clause-apart : goal.returns-clause-apart
 returns-clause-apart g c first last steps out free run =
     let a = g.A.ShmAllocator in
     let laws = g.met.A.ShmAllocator in
-    (AreOut-run a.Allocates a.Deallocates a.properties a.IsByteUsed a.IsAllocated a.IsPadding (a.properties first) laws.allocation
+    (AreOut-run a.Allocates a.Deallocates a.properties a.IsByteUsed a.IsAllocated a.IsPadding (a.properties first)
+    laws.allocation
     laws.deallocation first [] steps last out run (record { same = refl; apart = tt; within = tt; used = tt })).apart
 
 pub returns-clause-within : goal.returns-clause-within
 returns-clause-within g c first last steps out free run =
     let a = g.A.ShmAllocator in
     let laws = g.met.A.ShmAllocator in
-    (AreOut-run a.Allocates a.Deallocates a.properties a.IsByteUsed a.IsAllocated a.IsPadding (a.properties first) laws.allocation
+    (AreOut-run a.Allocates a.Deallocates a.properties a.IsByteUsed a.IsAllocated a.IsPadding (a.properties first)
+    laws.allocation
     laws.deallocation first [] steps last out run (record { same = refl; apart = tt; within = tt; used = tt })).within

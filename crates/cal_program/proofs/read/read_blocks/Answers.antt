@@ -10,5 +10,10 @@ returns-in_default-extend_from_slice g c =
     record {
       bytes = _;
       taken = Takes-then _ _ _ _ piece c.loop-bytes.invariant.taken c.in-Ok.ensures.taken;
-      within = omega (arith, length-append c.loop-bytes.bytes.items piece, length-take c.in-Ok.count c.take_front.new.block, within);
+      within = omega (
+        arith,
+        length-append c.loop-bytes.bytes.items piece,
+        length-take c.in-Ok.count c.take_front.new.block,
+        within,
+      );
     }

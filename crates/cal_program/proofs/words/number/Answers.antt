@@ -19,7 +19,8 @@ returns-in_err-value c = record {
 
 pub returns-in_err-value-2 : goal.returns-in_err-value-2
 returns-in_err-value-2 c =
-    let digit = digit_value-minus (get_or c.args.word.now c.loop-digit.digit-index 0) (sym c.if-not-is_ascii_digit.ensures.value) in
+    let digit = digit_value-minus (get_or c.args.word.now c.loop-digit.digit-index 0)
+    (sym c.if-not-is_ascii_digit.ensures.value) in
     record {
       value = c.from_residual-in_err-value-2.ensures
           ∙ number_of-great c.args.word.now c.loop-digit.digit-index c.loop-digit-test.true

@@ -7,7 +7,8 @@ returns-then-rest-eq0-clause-first c = none_in_word c.args.word c.args.from (ome
 
 pub returns : goal.returns
 returns c =
-    let first = first_in_word-IsFirst c.args.word c.args.from c.ranges.word.fits (λ none. c.if-rest-eq0.false none) in record {
+    let first = first_in_word-IsFirst c.args.word c.args.from c.ranges.word.fits (λ none. c.if-rest-eq0.false none) in
+    record {
       within = first_in_word-within c.args.word c.args.from _ c.ranges.word.fits first;
       first = first;
     }

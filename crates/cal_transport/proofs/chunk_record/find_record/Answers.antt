@@ -7,7 +7,8 @@ use Rattle.cal_transport.proofs.chunk_record.find_record.Goals as goal
 
 pub returns-in-Ok : goal.returns-in-Ok
 returns-in-Ok c =
-    let found = c.in-Ok.ensures.position (λ (entry : ChunkRecord). entry.name) (answers_always _ _ _ (λ f a r g called. search rules)) in
+    let found = c.in-Ok.ensures.position
+    (λ (entry : ChunkRecord). entry.name) (answers_always _ _ _ (λ f a r g called. search rules)) in
     let none : ChunkRecord = record { name = 0; bucket = 0; loaned = false; sent = false; borrowed = false } in
     record {
       found = (
@@ -18,5 +19,6 @@ returns-in-Ok c =
 
 pub returns-in-Err : goal.returns-in-Err
 returns-in-Err c =
-    let parted = c.in-Err.ensures.position (λ (entry : ChunkRecord). entry.name) (answers_always _ _ _ (λ f a r g called. search rules)) in
+    let parted = c.in-Err.ensures.position
+    (λ (entry : ChunkRecord). entry.name) (answers_always _ _ _ (λ f a r g called. search rules)) in
     record { found = has_no_record c.args.records.now c.args.name _ c.requires.rising parted }

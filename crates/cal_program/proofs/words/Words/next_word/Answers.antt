@@ -5,7 +5,8 @@ use Rattle.cal_program.proofs.words.Words.next_word.Goals as goal
 pub returns-then-place-bytes : goal.returns-then-place-bytes
 returns-then-place-bytes c = record {
   next = sym (rw c.in_ok-bytes.was at c.self.view_is)
-      ∙ words-last c.in_ok-bytes.bytes.now c.place_of-place.result c.if-place-bytes.true c.place_of-place.ensures.before;
+      ∙ words-last c.in_ok-bytes.bytes.now c.place_of-place.result c.if-place-bytes.true
+      c.place_of-place.ensures.before;
 }
 
 pub returns : goal.returns

@@ -28,10 +28,14 @@ load-read-requires c =
     )
 
 -- what the last look told, of the passes as they stood
-settled : (c : goal.After-drop-send) → (tags : List Tag) × IsSettled c.args.send.seat.me.0.writer c.args.take.seat.me.0.reader c.load-read.result tags
+settled : (c : goal.After-drop-send) →
+    (tags : List Tag) × IsSettled c.args.send.seat.me.0.writer c.args.take.seat.me.0.reader c.load-read.result tags
 settled c =
-    let told = c.load-read.ensures.2.1 in
-    (told.0, subst (λ (m : End). IsSettled m.0.writer m.0.reader c.load-read.result told.0) c.join_seat.ensures.2 told.1)
+    let told = c.load-read.ensures.2.1 in (
+      told.0,
+      subst (λ (m : End). IsSettled m.0.writer m.0.reader c.load-read.result told.0) c.join_seat.ensures.2
+          told.1,
+    )
 
 pub returns-clause-adds_up : goal.returns-clause-adds_up
 returns-clause-adds_up c =
@@ -59,8 +63,10 @@ returns-clause-partition c =
     let told = settled c in
     let sent = c.args.send.seat.me.0.writer.sent in
     let partition = tagged-partition told.0 sent told.1.read_within in
-    subst (λ (l : List (ℕ × ℕ)). IsPartition sent l c.args.send.seat.me.0.writer.overflowed) (sym told.1.received_tagged)
-    (subst (λ (l : List (ℕ × ℕ)). IsPartition sent (tagged_positions received 0 told.0 sent) l) (sym told.1.overflowed_tagged) partition)
+    subst (λ (l : List (ℕ × ℕ)). IsPartition sent l c.args.send.seat.me.0.writer.overflowed)
+    (sym told.1.received_tagged)
+    (subst (λ (l : List (ℕ × ℕ)). IsPartition sent (tagged_positions received 0 told.0 sent) l)
+    (sym told.1.overflowed_tagged) partition)
 
 pub returns-clause-scheduled : goal.returns-clause-scheduled
 returns-clause-scheduled c =

@@ -11,7 +11,8 @@ store-requires c =
     let within = slot_within (key + 1) c.args.written (omega arith) in (
       c.requires.seated,
       omega arith,
-      writer_stores_slot-allowed _ _ _ _ c.requires.sends c.requires.idle _ _ (c.requires.place ∙ ap (slot_of (key + 1)) c.requires.next) (omega arith) (omega arith),
+      writer_stores_slot-allowed _ _ _ _ c.requires.sends c.requires.idle
+          _ _ (c.requires.place ∙ ap (slot_of (key + 1)) c.requires.next) (omega arith) (omega arith),
     )
 
 pub store-requires-2 : goal.store-requires-2
@@ -20,5 +21,6 @@ store-requires-2 c =
     let same = ap (λ (m : End). length m.0.writer.sent) filled in (
       c.store.ensures.0 ∙ c.requires.seated,
       omega arith,
-      writer_stores_write-allowed _ _ _ _ (ap (λ (m : End). m.0.writes) filled ∙ c.requires.sends) _ _ (ap (λ (m : End). m.0.writer.to_send) filled) (omega arith),
+      writer_stores_write-allowed _ _ _ _ (ap (λ (m : End). m.0.writes) filled ∙ c.requires.sends)
+          _ _ (ap (λ (m : End). m.0.writer.to_send) filled) (omega arith),
     )

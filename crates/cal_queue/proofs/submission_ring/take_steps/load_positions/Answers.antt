@@ -8,5 +8,8 @@ load-read-requires c = (c.requires.seated, omega arith, reader_loads_read-allowe
 
 pub load-written-requires : goal.load-written-requires
 load-written-requires c =
-    let looked = c.load-read.ensures.2 in
-    (c.load-read.ensures.0 ∙ c.requires.seated, omega arith, reader_loads_write-allowed _ _ _ _ (ap (λ (m : End). m.0.reads) looked ∙ c.requires.takes))
+    let looked = c.load-read.ensures.2 in (
+      c.load-read.ensures.0 ∙ c.requires.seated,
+      omega arith,
+      reader_loads_write-allowed _ _ _ _ (ap (λ (m : End). m.0.reads) looked ∙ c.requires.takes),
+    )

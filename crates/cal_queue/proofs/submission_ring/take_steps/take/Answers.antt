@@ -12,7 +12,8 @@ load-value-requires c =
     let same = c.requires.loaded.0 in (
       c.requires.seated,
       omega arith,
-      reader_loads_slot-allowed _ _ _ _ c.requires.takes _ _ (c.requires.place ∙ ap (slot_of (key + 1)) same) c.requires.loaded.1 (omega arith),
+      reader_loads_slot-allowed _ _ _ _ c.requires.takes _ _ (c.requires.place ∙ ap (slot_of (key + 1)) same)
+          c.requires.loaded.1 (omega arith),
     )
 
 pub compare_exchange-found-requires : goal.compare_exchange-found-requires
@@ -20,5 +21,7 @@ compare_exchange-found-requires c =
     let looked = c.load-value.ensures.2 in (
       c.load-value.ensures.0 ∙ c.requires.seated,
       omega arith,
-      reader_exchanges_read-allowed _ _ _ _ (ap (λ (m : End). m.0.reads) looked ∙ c.requires.takes) _ _ (c.requires.loaded.0 ∙ sym (ap (λ (m : End). m.0.reader.seen_read) looked)) (ap (λ (m : End). m.0.reader.seen_value) looked),
+      reader_exchanges_read-allowed _ _ _ _ (ap (λ (m : End). m.0.reads) looked ∙ c.requires.takes)
+          _ _ (c.requires.loaded.0 ∙ sym (ap (λ (m : End). m.0.reader.seen_read) looked))
+          (ap (λ (m : End). m.0.reader.seen_value) looked),
     )

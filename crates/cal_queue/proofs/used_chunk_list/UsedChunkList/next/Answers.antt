@@ -11,10 +11,14 @@ first_from-requires c =
 
 pub returns-clause-value : goal.returns-clause-value
 returns-clause-value c =
-    shown-next c.self.inside.words.items _ _ (record { sound = c.self.invariant; is = c.self.view_is }) c.args.from c.first_from.result
-    (subst (λ words. IsFirstFrom (has_bit words) c.args.from c.first_from.result) c.deref.ensures.value c.first_from.ensures.first)
+    shown-next c.self.inside.words.items _ _ (record { sound = c.self.invariant; is = c.self.view_is }) c.args.from
+    c.first_from.result
+    (subst (λ words. IsFirstFrom (has_bit words) c.args.from c.first_from.result) c.deref.ensures.value
+    c.first_from.ensures.first)
 
 pub returns-clause-first : goal.returns-clause-first
 returns-clause-first c =
-    shown-first c.self.inside.words.items _ _ (record { sound = c.self.invariant; is = c.self.view_is }) c.args.from c.first_from.result
-    (subst (λ words. IsFirstFrom (has_bit words) c.args.from c.first_from.result) c.deref.ensures.value c.first_from.ensures.first)
+    shown-first c.self.inside.words.items _ _ (record { sound = c.self.invariant; is = c.self.view_is }) c.args.from
+    c.first_from.result
+    (subst (λ words. IsFirstFrom (has_bit words) c.args.from c.first_from.result) c.deref.ensures.value
+    c.first_from.ensures.first)

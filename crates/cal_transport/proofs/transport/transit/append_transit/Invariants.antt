@@ -3,4 +3,5 @@ use Rattle.cal_transport.proofs.transport.transit.append_transit.Given as goal
 
 -- the buckets so far are told, and there is room for the others
 abbrev pub invariant-loop-bucket : goal.invariant-loop-bucket
-invariant-loop-bucket l = Listed l.used l.records l.record_indices l.size l.bucket l.limit l.fn.into.items l.into.items l.into.spare
+invariant-loop-bucket l = Listed l.used l.records l.record_indices l.size l.bucket l.limit l.fn.into.items l.into.items
+    l.into.spare

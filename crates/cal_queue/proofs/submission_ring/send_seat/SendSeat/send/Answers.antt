@@ -9,7 +9,8 @@ invariant_of-self c =
     let self = c.args.self.now in
     let sent = self.seat.me.0.writer.sent in
     let done = c.append.ensures.appended in
-    let not_full : length sent ≢ self.seat.me.0.writer.seen_read + self.seat.me.0.writer.buffer = let h = c.requires.room in omega arith in
+    let not_full : length sent ≢ self.seat.me.0.writer.seen_read + self.seat.me.0.writer.buffer = let h =
+    c.requires.room in omega arith in
     let long = length-append sent (c.args.value ∷ []) in
     let grown = ap (λ (m : End). length m.0.writer.sent) done in
     let counted = self.counted in
@@ -25,5 +26,7 @@ invariant_of-self c =
       nothing_to_send = ap (λ (m : End). m.0.writer.to_send) done;
       counted = (omega arith, self.counted.1 ∙ sym (ap (λ (m : End). length m.0.writer.overflowed) done));
       indexed = c.next_index-self.ensures.next self.written self.indexed;
-      copied = subst (λ (l : List ℕ). KeepsLast self.buffer l (set self.copy.items self.index c.args.value)) (sym (ap (λ (m : End). m.0.writer.sent) done)) (KeepsLast-more self.buffer sent self.copy.items self.index c.args.value self.copied here);
+      copied = subst (λ (l : List ℕ). KeepsLast self.buffer l (set self.copy.items self.index c.args.value))
+          (sym (ap (λ (m : End). m.0.writer.sent) done))
+          (KeepsLast-more self.buffer sent self.copy.items self.index c.args.value self.copied here);
     }

@@ -28,7 +28,9 @@ invariant_of-self c =
       nothing_to_send = ap (λ (m : End). m.0.writer.to_send) lost;
       counted = (omega arith, self.counted.1 ∙ sym (ap (λ (m : End). length m.0.writer.overflowed) lost));
       indexed = c.next_index-self.ensures.next self.written self.indexed;
-      copied = subst (λ (l : List ℕ). KeepsLast self.buffer l (set self.copy.items self.index c.args.value)) (sym (ap (λ (m : End). m.0.writer.sent) lost)) (KeepsLast-more self.buffer sent self.copy.items self.index c.args.value self.copied here);
+      copied = subst (λ (l : List ℕ). KeepsLast self.buffer l (set self.copy.items self.index c.args.value))
+          (sym (ap (λ (m : End). m.0.writer.sent) lost))
+          (KeepsLast-more self.buffer sent self.copy.items self.index c.args.value self.copied here);
     }
 
 pub invariant_of-self-2 : goal.invariant_of-self-2
@@ -56,7 +58,9 @@ invariant_of-self-2 c =
       nothing_to_send = ap (λ (m : End). m.0.writer.to_send) won;
       counted = (omega arith, omega arith);
       indexed = c.next_index-self.ensures.next self.written self.indexed;
-      copied = subst (λ (l : List ℕ). KeepsLast self.buffer l (set self.copy.items self.index c.args.value)) (sym (ap (λ (m : End). m.0.writer.sent) won)) (KeepsLast-more self.buffer sent self.copy.items self.index c.args.value self.copied here);
+      copied = subst (λ (l : List ℕ). KeepsLast self.buffer l (set self.copy.items self.index c.args.value))
+          (sym (ap (λ (m : End). m.0.writer.sent) won))
+          (KeepsLast-more self.buffer sent self.copy.items self.index c.args.value self.copied here);
     }
 
 pub returns-clause-overflowed : goal.returns-clause-overflowed
@@ -69,7 +73,8 @@ returns-clause-overflowed c =
     let next = c.next_index-self.ensures.next self.written self.indexed ∙ ap
     (λ (k : ℕ). (k + 1) % (self.buffer + 1)) self.counted.0 in
     let full = c.requires.full ∙ ap (λ (k : ℕ). before.seen_read + k) self.sends.1 in
-    let oldest = oldest-read self.buffer before.sent self.copy.items self.index c.next_index-self.result before.seen_read
+    let oldest = oldest-read self.buffer before.sent self.copy.items self.index c.next_index-self.result
+    before.seen_read
     c.args.value c.index.result.now self.copied here next full c.index.ensures in (
       ap (λ (m : End). m.0.writer.overflowed) won ∙ ap
           (λ (v : ℕ). before.overflowed ++ (before.seen_read, v) ∷ []) (sym oldest.0),
