@@ -1,9 +1,9 @@
 //! Calls that one thread makes alone: a chunk of a pool got and freed, a value pushed into a queue and popped, and a number
 //! put into a used list and taken out.
-ghost use Rattle.std.specs.Prelude.{IsTrue};
+ghost use Rattle.std.specs.Prelude.{◌≡◌, IsTrue, IfOk, OnErr};
 
 use cal_alloc::pool_allocator::Config;
-use cal_alloc::{Layout, PoolAllocator, ShmAllocator};
+use cal_alloc::{Layout, PointerOffset, PoolAllocator, ShmAllocationError, ShmAllocator};
 use cal_queue::index_queue::IndexQueue;
 use cal_queue::used_chunk_list::UsedChunkList;
 use std::alloc::{AllocError, Global};
@@ -48,14 +48,36 @@ impl Container {
     }
 }
 
+/// Gets a chunk. Kept apart from `free`, so that no compiler sees that the two undo each other.
+#[inline(never)]
+fn get<A: ShmAllocator>(
+    allocator: &mut A,
+    layout: Layout,
+) -> Result<PointerOffset, ShmAllocationError>
+    requires ready { IsTrue (A.properties allocator.old).is_ready }
+    ensures given { IfOk result (λ pointer. A.Allocates allocator.old layout pointer allocator.new) }
+    ensures err { OnErr result (allocator.new ≡ allocator.old) }
+{
+    allocator.allocate(layout)
+}
+
+/// Frees a chunk.
+#[inline(never)]
+fn free<A: ShmAllocator>(allocator: &mut A, pointer: PointerOffset, layout: Layout)
+    requires allocated { A.IsAllocated allocator.old pointer }
+    ensures freed { A.Deallocates allocator.old pointer allocator.new }
+{
+    allocator.deallocate(pointer, layout);
+}
+
 /// Gets a chunk and frees it again, so many times; how often there was one.
 fn get_and_free<A: ShmAllocator>(allocator: &mut A, layout: Layout, count: u64) -> u64
     requires ready { IsTrue (A.properties allocator.old).is_ready }
 {
     let mut got = 0u64;
     'calls: for _ in 0..count {
-        if let Ok(pointer) = allocator.allocate(layout) {
-            allocator.deallocate(pointer, layout);
+        if let Ok(pointer) = get(allocator, layout) {
+            free(allocator, pointer, layout);
             got = got.wrapping_add(1);
         }
     }
