@@ -1,5 +1,5 @@
 -- What a walk over the used buckets lists: the chunks in transit.
-use Rattle.std.proofs.Common.{ℕ, zero, suc, ◌+◌, ◌*◌, ◌<◌, ◌≤◌, ◌≡◌, ◌≢◌, ◌⊎◌, inl, inr, min, Bool, true, false, cond, ◌&&◌, nat_eq, List, [], ◌∷◌, ◌++◌, map, Some, refl, sym, ap, ◌∙◌, arith}
+use Rattle.std.proofs.Common.{ℕ, zero, suc, ◌+◌, ◌-◌, ◌*◌, ◌<◌, ◌≤◌, ◌≡◌, ◌≢◌, ◌⊎◌, inl, inr, min, Bool, true, false, cond, ◌&&◌, nat_eq, List, [], ◌∷◌, ◌++◌, map, Some, refl, sym, ap, ◌∙◌, arith, append_assoc}
 use Rattle.std.specs.List.{slice_get, flat_map, filter}
 use Rattle.std.proofs.lemmas.Bool.{cases_lt, true≢false}
 use Rattle.std.proofs.lemmas.Bool.Decides.{nat_tests}
@@ -7,6 +7,7 @@ use Rattle.std.proofs.lemmas.Option.{same_Some, none-some}
 use Rattle.std.proofs.lemmas.List.{append-nil, map-append, get_or_past}
 use Rattle.std.proofs.lemmas.Grind.{flat_map-append}
 use Rattle.cal_alloc.specs.Pool.{is_used}
+use Rattle.cal_queue.specs.FirstFrom.{IsFirst}
 use Rattle.cal_queue.specs.UsedChunks.{UsedChunks, contains}
 use Rattle.cal_transport.specs.declared.chunk_record.ChunkRecord.{ChunkRecord}
 use Rattle.cal_transport.specs.declared.reply.Reply.{Reply}
@@ -72,6 +73,64 @@ flat_map_cut f (suc n) m none = elim (cases_lt n m) [
       ∙ flat_map_cut f n m none ∙ ap
       (λ k. flat_map f (numbers_below k)) (let e : min n m ≡ min (suc n) m = omega arith in e)
 ]
+
+-- where a function gives nothing between two numbers, nothing is added between them
+flat_map_gap : (f : ℕ → List Reply) (start end : ℕ) → start ≤ end → ((k : ℕ) → start ≤ k → k < end → f k ≡ []) →
+    flat_map f (numbers_below end) ≡ flat_map f (numbers_below start)
+flat_map_gap f start zero up none = ap (λ k. flat_map f (numbers_below k)) (let e : 0 ≡ start = omega arith in e)
+flat_map_gap f start (suc end) up none = elim (cases_lt end start) [
+  | inl below ↦ ap (λ k. flat_map f (numbers_below k)) (let e : suc end ≡ start = omega arith in e)
+  | inr past ↦ flat_map-append f (numbers_below end) (end ∷ [])
+      ∙ ap (λ last. flat_map f (numbers_below end) ++ (last ++ [])) (none end past (omega arith))
+      ∙ append-nil (flat_map f (numbers_below end))
+      ∙ flat_map_gap f start end past (λ k above below. none k above (omega arith))
+]
+
+-- ---- the walk from one used bucket to the next
+
+module _ (used : UsedChunks) (records : List ChunkRecord) (record_indices : List ℕ) (size : ℕ) where
+  abbrev R : ℕ → List Reply
+  R = transit_reply used records record_indices size
+
+  nothing : (bucket : ℕ) → contains used bucket ≡ false → R bucket ≡ []
+  nothing bucket unused =
+      ap (λ b. cond b (reply_of (record_of_index records (slice_get record_indices bucket)) (bucket * size)) []) unused
+
+  -- no bucket between the two is used, so what was listed up to the first is what is listed up to the second
+  pub listed_on : (start end limit spare : ℕ) (before now : List Reply) → start ≤ end →
+      ((k : ℕ) → start ≤ k → k < end → contains used k ≡ false) →
+      Listed used records record_indices size start limit before now spare →
+      now ≡ before ++ flat_map R (numbers_below end)
+  listed_on start end limit spare before now up unused l =
+      l.listed ∙ ap (λ told. before ++ told)
+      (sym (flat_map_gap R start end up (λ k above below. nothing k (unused k above below))))
+
+  -- the reply of a used bucket
+  pub tells : (bucket index : ℕ) (record_of_chunk : ChunkRecord) → contains used bucket ≡ true →
+      slice_get record_indices bucket ≡ Some index → slice_get records index ≡ Some record_of_chunk →
+      R bucket ≡ Transit 0 (record { chunk = record_of_chunk.name; segment = 0; place = bucket * size }) ∷ []
+  tells bucket index record_of_chunk is_member at_index at_record =
+      ap (λ b. cond b (reply_of (record_of_index records (slice_get record_indices bucket)) (bucket * size)) [])
+      is_member
+      ∙ ap (λ o. reply_of (record_of_index records o) (bucket * size)) at_index
+      ∙ ap (λ o. reply_of o (bucket * size)) at_record
+
+  -- a used bucket adds its reply
+  pub listed_with : (start bucket limit spare : ℕ) (before now : List Reply) (reply : Reply) →
+      IsFirst (contains used) start bucket → bucket < limit → R bucket ≡ reply ∷ [] →
+      Listed used records record_indices size start limit before now spare →
+      Listed used records record_indices size (bucket + 1) limit before (now ++ reply ∷ []) (spare - 1)
+  listed_with start bucket limit spare before now reply first below told l = record {
+    listed =
+        ap (λ so_far. so_far ++ reply ∷ [])
+        (listed_on start bucket limit spare before now first.not_before first.first l)
+        ∙ append_assoc before (flat_map R (numbers_below bucket)) (reply ∷ [])
+        ∙ ap (λ last. before ++ (flat_map R (numbers_below bucket) ++ last)) (sym told)
+        ∙ ap (λ last. before ++ (flat_map R (numbers_below bucket) ++ last)) (sym (append-nil (R bucket)))
+        ∙ ap (λ so_far. before ++ so_far) (sym (flat_map-append R (numbers_below bucket) (bucket ∷ [])))
+        ∙ ap (λ k. before ++ flat_map R (numbers_below k)) (let e : suc bucket ≡ bucket + 1 = omega arith in e);
+    room = (let r = l.room in let up = first.not_before in omega arith);
+  }
 
 -- ---- used buckets
 

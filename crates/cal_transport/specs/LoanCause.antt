@@ -3,7 +3,7 @@ use Rattle.std.specs.Prelude.{ℕ, Bool, true, false, not, ◌&&◌, ◌==◌, n
 use Rattle.std.specs.Int.{is_power_of_two}
 use Rattle.cal_alloc.specs.declared.allocation_strategy.AllocationStrategy.{AllocationStrategy}
 use Rattle.cal_alloc.specs.declared.allocation_strategy.AllocationStrategy.TheVariants.{BestFit, PowerOfTwo, Static}
-use Rattle.cal_alloc.specs.Growth.{Buckets, fits_bucket, grown_buckets}
+use Rattle.cal_alloc.specs.Growth.{SegmentLayout, fits_bucket, grown_buckets}
 use Rattle.cal_transport.specs.declared.reply.Refusal.{Refusal}
 use Rattle.cal_transport.specs.declared.reply.Refusal.TheVariants.{BadLayout, ExceedsMaxSupportedAlignment, SizeTooLarge, OutOfMemory, MaxReallocationsReached, SizeOutOfRange, InternalError}
 use Rattle.cal_transport.specs.Settings.{is_too_large}
@@ -12,7 +12,7 @@ use Rattle.cal_transport.specs.Settings.{is_too_large}
 pub record CurrentSegment : Type 0 where
   pub strategy : AllocationStrategy
   pub number : ℕ
-  pub layout : Buckets
+  pub layout : SegmentLayout
   pub full : Bool
 
 abbrev pub is_static : AllocationStrategy → Bool
@@ -30,7 +30,7 @@ needs_segment segment size alignment =
     is_power_of_two alignment && not (is_static segment.strategy) && not (serves segment size alignment)
 
 -- the layout of the segment that a loan makes where this one doesn't serve it
-abbrev pub next_segment : CurrentSegment → ℕ → ℕ → Buckets
+abbrev pub next_segment : CurrentSegment → ℕ → ℕ → SegmentLayout
 next_segment segment size alignment = grown_buckets segment.strategy segment.layout segment.full size alignment
 
 -- a static memory doesn't serve the loan
@@ -42,7 +42,7 @@ static_cause segment size alignment =
     else None
 
 -- a memory that grows can't take this segment next
-abbrev pub growth_cause : CurrentSegment → Buckets → Option Refusal
+abbrev pub growth_cause : CurrentSegment → SegmentLayout → Option Refusal
 growth_cause segment next =
     if segment.number == 255 then Some MaxReallocationsReached
     else if is_too_large next then Some SizeOutOfRange

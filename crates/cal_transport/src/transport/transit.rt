@@ -36,7 +36,7 @@ impl Transport {
     }
 }
 
-/// Appends a reply for each used bucket below a limit.
+/// Appends a reply for each used bucket below a limit. It goes from one used bucket to the next, by the words of the list.
 fn append_transit(
     used: &UsedChunkList,
     records: &[ChunkRecord],
@@ -51,17 +51,20 @@ fn append_transit(
     ensures listed { into.new.items ≡ into.old.items
         ++ flat_map (transit_reply used.now records.now record_indices.now size) (numbers_below limit) }
 {
-    for bucket in 0..limit {
-        if used.contains(bucket) {
-            let found = record_at(records, record_indices, bucket);
-            into.push(Reply::Transit {
-                channel: 0,
-                slot: Slot {
-                    chunk: found.entry.name,
-                    segment: 0,
-                    place: bucket * size,
-                },
-            });
+    let mut from = 0;
+    while let Some(bucket) = used.next(from) {
+        if bucket >= limit {
+            return;
         }
+        let found = record_at(records, record_indices, bucket);
+        into.push(Reply::Transit {
+            channel: 0,
+            slot: Slot {
+                chunk: found.entry.name,
+                segment: 0,
+                place: bucket * size,
+            },
+        });
+        from = bucket + 1;
     }
 }

@@ -32,7 +32,7 @@ overflow_mul-found c =
     let within = entry_within (parts_of c.self.inside) c.self.invariant.0 c.args.chunk c.in-Some.found
     c.self.invariant.1 (subst
     (λ es. IsFound es c.args.chunk c.in-Some.found) c.deref.ensures.value c.in-Some.ensures.found) in
-    record { below = rw c.bucket_size.ensures.value (let size = c.self.invariant.1.ready.size in omega arith) }
+    rw c.bucket_size.ensures.value (let size = c.self.invariant.1.ready.size in omega arith)
 
 pub new-pointer-requires : goal.new-pointer-requires
 new-pointer-requires c =
