@@ -1,0 +1,6 @@
+pub mod Calls
+pub mod Lends
+pub mod Plan
+pub mod Refusals
+pub mod Segment
+pub mod TypeName
