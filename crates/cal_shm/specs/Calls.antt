@@ -1,10 +1,10 @@
 -- What the calls of a segment do to the registry that has it.
-use Rattle.std.specs.Prelude.{◌≡◌, ℕ, ◌+◌, ◌≤◌, Some, IsSomeAnd, length}
+use Rattle.std.specs.Prelude.{◌≡◌, ℕ, ◌+◌, ◌≤◌, Option, Some, None, IsSomeAnd, List, length}
 use Rattle.cal_storage.specs.Contents.{Contents, value_of, with_value}
 use Rattle.cal_alloc.specs.Chunks.{Properties, chunk_size}
 use Rattle.cal_alloc.specs.PointerOffset.{offset_of}
 use Rattle.cal_alloc.specs.SizeAndAlignment.{SizeAndAlignment}
-use Rattle.cal_shm.specs.Segment.{Segment, with_allocator}
+use Rattle.cal_shm.specs.Segment.{Segment, with_allocator, with_bytes}
 
 module _ {A : Type 0} where
   -- The allocator of a segment has changed in this way, and nothing else in the registry has.
@@ -28,3 +28,12 @@ module _ {A : Type 0} where
   abbrev pub IsChunkWithin : (A → Properties) → Segment A → SizeAndAlignment → ℕ → Type 0
   IsChunkWithin properties segment layout pointer =
       IsWithin segment (offset_of pointer) (chunk_size (properties segment.allocator) layout)
+
+  -- a registry with other bytes in the payload of the segment of an id, from an offset on
+  abbrev pub with_written_in : Contents (Segment A) → ℕ → ℕ → List ℕ → Option (Segment A) → Contents (Segment A)
+  with_written_in contents id offset written None = contents
+  with_written_in contents id offset written (Some segment) =
+      with_value contents id (with_bytes segment offset written)
+
+  abbrev pub with_written : Contents (Segment A) → ℕ → ℕ → List ℕ → Contents (Segment A)
+  with_written contents id offset written = with_written_in contents id offset written (value_of contents id)

@@ -5,6 +5,8 @@ use Rattle.std.specs.declared.default.Default as default
 use Rattle.std.specs.declared.fmt.Debug as debug
 use Rattle.cal_alloc.specs.declared.shm_allocator.ShmAllocator as allocator
 use Rattle.cal_shm.specs.contracts.allocator_details.AllocatorDetails as details
+use Rattle.cal_storage.specs.contracts.registry.Registry as registry
+use Rattle.cal_shm.specs.Calls.{with_written}
 use Rattle.cal_shm.specs.Segment.{with_bytes}
 
 -- an allocator and its configuration, with what their traits say of them
@@ -17,3 +19,11 @@ module _ (A C : RattleType) (calls : allocator.Ghosts A.Denot C.Denot) (shown : 
   abbrev pub LendsBytes : MutBor segment_row.Denot → ℕ → MutBor (List ℕ) → Fml
   LendsBytes segment offset bytes =
       Lends segment_row (Array u8 0) segment bytes (λ last. with_bytes segment.now offset last)
+
+  abbrev registry_row : RattleType
+  registry_row = registry.the_row segment_row
+
+  -- of a registry: those of the segment of an id
+  abbrev pub LendsBytesOf : MutBor registry_row.Denot → ℕ → ℕ → MutBor (List ℕ) → Fml
+  LendsBytesOf contents id offset bytes =
+      Lends registry_row (Array u8 0) contents bytes (λ last. with_written contents.now id offset last)

@@ -1,4 +1,5 @@
 pub mod Calls
+pub mod Configuration
 pub mod Lends
 pub mod Plan
 pub mod Refusals

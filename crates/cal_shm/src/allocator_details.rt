@@ -2,13 +2,14 @@
 ghost use Rattle.std.specs.Prelude.{◌≡◌, ◌+◌, ◌≤◌, ◌^◌, IsTrue, IsErrOf, IfOk, IfErr, OnErr, length, slice_range};
 ghost use Rattle.std.specs.Result.{result_err};
 ghost use Rattle.std.specs.Borrow.{sem};
+ghost use Rattle.cal_alloc.specs.Pool.{IsUsedBucket, FreesBucket};
 ghost use Rattle.cal_alloc.specs.PointerOffset.{offset_of};
 ghost use Rattle.cal_shm.specs.Calls.{IsWithin, IsChunkWithin};
 ghost use Rattle.cal_shm.specs.Lends.{LendsBytes};
 ghost use Rattle.cal_shm.specs.Segment.{with_allocator};
 ghost use Rattle.cal_shm.specs.TypeName.{segment_type_name};
 
-use cal_alloc::{Layout, PointerOffset, ShmAllocationError, ShmAllocator};
+use cal_alloc::{Layout, PointerOffset, PoolAllocator, ShmAllocationError, ShmAllocator};
 use cal_names::{NamedType, TypeName};
 use std::marker::Model;
 
@@ -117,5 +118,16 @@ impl<A: ShmAllocator> AllocatorDetails<A> {
     {
         let first = offset.offset();
         self.payload.slice_mut(first..first + count)
+    }
+}
+
+impl AllocatorDetails<PoolAllocator> {
+    /// Takes back the bucket at that offset.
+    pub(crate) fn deallocate_bucket(&mut self, offset: PointerOffset)
+        requires { IsUsedBucket self.old.allocator offset }
+        ensures freed { FreesBucket self.old.allocator offset self.new.allocator }
+        ensures after { self.new ≡ with_allocator self.old self.new.allocator }
+    {
+        self.allocator.deallocate_bucket(offset);
     }
 }
