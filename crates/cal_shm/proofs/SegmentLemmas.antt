@@ -1,9 +1,10 @@
 -- What the calls of a segment leave in the registry, from the segment that its storage lent.
 use Rattle.std.proofs.Common.{◌≡◌, ℕ, Some, IsSomeAnd, sym, ap, subst, ◌∙◌}
-use Rattle.cal_storage.specs.Contents.{Contents, value_of, with_value}
+use Rattle.cal_storage.specs.Contents.{Contents, Has, value_of, with_value}
+use Rattle.cal_storage.specs.declared.Handle.{Handle}
 use Rattle.cal_storage.specs.Holding.{KeepsHandles}
 use Rattle.cal_storage.specs.HoldingLemmas.{KeepsHandles-is, KeepsHandles-with_value}
-use Rattle.cal_storage.specs.ValueLemmas.{with_value-present}
+use Rattle.cal_storage.specs.ValueLemmas.{with_value-present, value_of-with_value-same}
 use Rattle.cal_shm.specs.Calls.{ChangesAllocator, OfSegment}
 use Rattle.cal_shm.specs.Segment.{Segment, with_allocator}
 
@@ -35,3 +36,10 @@ module _ {A : Type 0} (old : Contents (Segment A)) (id : ℕ) (segment : Segment
 
     pub keeps : KeepsHandles old new
     keeps = KeepsHandles-is old new (with_value old id left) is (KeepsHandles-with_value old id left)
+
+    -- a fact of what was left is one of the segment of the id
+    pub of_left : (handle : Handle) → handle.id ≡ id → Has old handle → (fact : Segment A → Type 0) → fact left →
+        OfSegment new id fact
+    of_left handle same has fact holds =
+        subst (λ contents. OfSegment contents id fact) (sym is)
+        (subst (λ found. IsSomeAnd found fact) (sym (value_of-with_value-same old id left handle same has)) holds)

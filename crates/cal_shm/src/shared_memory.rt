@@ -150,8 +150,10 @@ pub trait SharedMemory<A: ShmAllocator>: Debug
         requires { Has reg.old (handle self.now) }
         ensures refused { OfSegment reg.old (handle self.now).id (λ segment.
             result_err result ≡ A.refusal segment.allocator layout) }
-        ensures allocated { IfOk result (λ pointer. ChangesAllocator reg.old (handle self.now).id
+        ensures given { IfOk result (λ pointer. ChangesAllocator reg.old (handle self.now).id
             (λ before after. A.Allocates before layout pointer.offset after) reg.new) }
+        ensures allocated { IfOk result (λ pointer. OfSegment reg.new (handle self.now).id (λ segment.
+            A.IsAllocated segment.allocator pointer.offset)) }
         ensures within { IfOk result (λ pointer. OfSegment reg.old (handle self.now).id (λ segment.
             IsChunkWithin A.properties segment layout pointer.offset)) }
         ensures keeps { KeepsHandles reg.old reg.new }
