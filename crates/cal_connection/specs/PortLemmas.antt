@@ -1,0 +1,48 @@
+-- What follows of an entry's soundness, and how the entry of a handle is read and written in a registry.
+use Rattle.std.specs.Prelude.{◌≡◌, ℕ, ◌<◌, List, length, map, replicate, slice_index_or, slice_set}
+use Rattle.std.proofs.Common.{refl, sym, ap, ◌∙◌, subst, arith}
+use Rattle.std.proofs.Math.Seq.{map-set_same}
+use Rattle.std.proofs.Math.ListN.{get_or-map}
+use Rattle.std.proofs.lemmas.List.{get_or-replicate, length-map, length-replicate}
+use Rattle.cal_connection.specs.declared.segment_details.SegmentDetails.{SegmentDetails}
+use Rattle.cal_connection.specs.Channel.{ChannelEntry, Shape, shape, shape_of, samples_of, capacity_of, no_segment, segment_at}
+use Rattle.cal_connection.specs.Port.{PortEntry, IsSoundPort, no_channel, channel_at, with_channel}
+
+module _ (port : PortEntry) (sound : IsSoundPort port) where
+  pub length-channels : length port.channels ≡ port.settings.number_of_channels
+  length-channels =
+      sym (length-map port.channels shape) ∙ ap length sound.shapes
+      ∙ length-replicate port.settings.number_of_channels (shape_of port.settings)
+
+  pub shape-channel_at : (channel : ℕ) → channel < port.settings.number_of_channels →
+      shape (channel_at port channel) ≡ shape_of port.settings
+  shape-channel_at channel within =
+      sym (get_or-map shape port.channels channel no_channel)
+      ∙ ap (λ xs. slice_index_or xs channel (shape no_channel)) sound.shapes
+      ∙ get_or-replicate port.settings.number_of_channels channel (shape_of port.settings) (shape no_channel) within
+
+  pub length-segments : (channel : ℕ) → channel < port.settings.number_of_channels →
+      length (channel_at port channel).segments ≡ port.settings.number_of_segments
+  length-segments channel within =
+      sym (length-map (channel_at port channel).segments samples_of)
+      ∙ ap (λ (s : Shape). length s.samples) (shape-channel_at channel within)
+      ∙ length-replicate port.settings.number_of_segments port.settings.number_of_samples
+
+  pub samples-segment_at : (channel segment : ℕ) → channel < port.settings.number_of_channels →
+      segment < port.settings.number_of_segments →
+      samples_of (segment_at (channel_at port channel).segments segment) ≡ port.settings.number_of_samples
+  samples-segment_at channel segment within below =
+      sym (get_or-map samples_of (channel_at port channel).segments segment no_segment)
+      ∙ ap (λ (s : Shape). slice_index_or s.samples segment 0) (shape-channel_at channel within)
+      ∙ get_or-replicate port.settings.number_of_segments segment port.settings.number_of_samples 0 below
+
+  -- an entry stays sound where a channel changes, and its room doesn't
+  pub IsSoundPort-changed : (channel : ℕ) (found changed : ChannelEntry) →
+      found ≡ slice_index_or port.channels channel found → shape changed ≡ shape found →
+      IsSoundPort (with_channel port channel changed)
+  IsSoundPort-changed channel found changed is same = record {
+    clamped = sound.clamped;
+    fits = sound.fits;
+    word = sound.word;
+    shapes = map-set_same shape port.channels channel changed found (same ∙ ap shape is) ∙ sound.shapes;
+  }
