@@ -6,7 +6,7 @@ use Rattle.cal_storage.specs.declared.handle.Handle.{Handle}
 use Rattle.cal_storage.specs.Contents.{Contents, value_of, with_value}
 use Rattle.cal_connection.specs.declared.settings.ConnectionSettings.{ConnectionSettings}
 use Rattle.cal_connection.specs.Settings.{completion_size, IsClamped}
-use Rattle.cal_connection.specs.Channel.{ChannelEntry, empty, new_channel, shape, shape_of, is_used}
+use Rattle.cal_connection.specs.Channel.{ChannelEntry, empty, new_channel, shape, shape_of, is_used, with_word}
 use Rattle.cal_connection.specs.Words.{IsPortWord}
 
 -- the settings, the word that says which ports are there, and the channels by their numbers
@@ -96,6 +96,14 @@ settings_at contents handle = (port_at contents handle).settings
 abbrev pub with_channel_of : Contents PortEntry → Handle → ℕ → ChannelEntry → Contents PortEntry
 with_channel_of contents handle channel changed =
     with_port contents handle (with_channel (port_at contents handle) channel changed)
+
+-- the word of a channel, and the registry in which it is this one
+abbrev pub word_of : Contents PortEntry → Handle → ℕ → ℕ
+word_of contents handle channel = (channel_of contents handle channel).word
+
+abbrev pub with_word_of : Contents PortEntry → Handle → ℕ → ℕ → Contents PortEntry
+with_word_of contents handle channel word =
+    with_channel_of contents handle channel (with_word (channel_of contents handle channel) word)
 
 -- what a sender is: its name, and the handle of its entry
 pub record SenderEnd : Type 0 where

@@ -3,7 +3,7 @@ use Rattle.std.specs.Prelude.{◌≡◌, ℕ, ◌<◌, List, length, map, replic
 use Rattle.std.proofs.Common.{refl, sym, ap, ◌∙◌, subst, arith}
 use Rattle.std.proofs.Math.Seq.{map-set_same}
 use Rattle.std.proofs.Math.ListN.{get_or-map}
-use Rattle.std.proofs.lemmas.List.{get_or-replicate, length-map, length-replicate}
+use Rattle.std.proofs.lemmas.List.{get_or_default, get_or-replicate, length-map, length-replicate}
 use Rattle.cal_connection.specs.declared.segment_details.SegmentDetails.{SegmentDetails}
 use Rattle.cal_connection.specs.Channel.{ChannelEntry, Shape, shape, shape_of, samples_of, capacity_of, no_segment, segment_at}
 use Rattle.cal_connection.specs.Port.{PortEntry, IsSoundPort, no_channel, channel_at, with_channel}
@@ -35,6 +35,12 @@ module _ (port : PortEntry) (sound : IsSoundPort port) where
       sym (get_or-map samples_of (channel_at port channel).segments segment no_segment)
       ∙ ap (λ (s : Shape). slice_index_or s.samples segment 0) (shape-channel_at channel within)
       ∙ get_or-replicate port.settings.number_of_segments segment port.settings.number_of_samples 0 below
+
+  -- what was found at a channel's number is the channel
+  pub channel_at-found : (channel : ℕ) (found : ChannelEntry) → channel < port.settings.number_of_channels →
+      found ≡ slice_index_or port.channels channel found → found ≡ channel_at port channel
+  channel_at-found channel found within is =
+      is ∙ get_or_default port.channels channel found no_channel (subst (λ n. channel < n) (sym length-channels) within)
 
   -- an entry stays sound where a channel changes, and its room doesn't
   pub IsSoundPort-changed : (channel : ℕ) (found changed : ChannelEntry) →

@@ -6,9 +6,13 @@ mod channel;
 pub mod channel_id;
 pub mod channel_state;
 pub mod errors;
+mod port_details;
+mod receiver;
 mod segment_details;
+mod sender;
 mod settings;
 mod shared_management_data;
+mod words;
 
 pub use channel::Channel;
 pub use channel_id::ChannelId;
@@ -20,6 +24,9 @@ pub use errors::{
     ZeroCopyCreationError, ZeroCopyPortRemoveError, ZeroCopyReceiveError, ZeroCopyReclaimError,
     ZeroCopyReleaseError, ZeroCopySendError,
 };
+pub use port_details::ZeroCopyPortDetails;
+pub use receiver::{Receiver, ZeroCopyReceiver};
 pub use segment_details::SegmentDetails;
+pub use sender::{Sender, ZeroCopySender};
 pub use settings::ConnectionSettings;
 pub use shared_management_data::SharedManagementData;

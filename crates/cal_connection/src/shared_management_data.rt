@@ -13,6 +13,7 @@ use crate::errors::{
     ZeroCopyReceiveError, ZeroCopyReclaimError, ZeroCopyReleaseError, ZeroCopySendError,
 };
 use crate::settings::ConnectionSettings;
+use crate::words;
 use cal_alloc::PointerOffset;
 use cal_names::{NamedType, TypeName};
 use std::alloc::{AllocError, Global};
@@ -151,6 +152,13 @@ impl SharedManagementData {
         ensures sound { IsSoundPort self.old }
     {
         self.channels[channel].set_word(word);
+    }
+
+    /// Whether both ports are there.
+    pub(crate) fn is_connected(&self) -> bool
+        ensures value { result ≡ is_connected self.now.word }
+    {
+        words::is_connected(self.word)
     }
 
     /// The settings.

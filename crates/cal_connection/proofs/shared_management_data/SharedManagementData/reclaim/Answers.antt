@@ -7,4 +7,4 @@ use Rattle.cal_connection.proofs.shared_management_data.SharedManagementData.rec
 pub invariant_of-self : goal.invariant_of-self
 invariant_of-self c =
     IsSoundPort-changed _ c.self.invariant c.args.channel c.index_mut.result.now c.reclaim.new.self
-    c.index_mut.ensures.value (ap shape c.reclaim.ensures.reclaimed ∙ shape-after_reclaim _)
+    c.index_mut.ensures.value (ap shape c.reclaim.ensures.reclaimed ∙ shape-after_reclaim c.index_mut.result.now)

@@ -7,7 +7,6 @@ ghost use Rattle.cal_storage.specs.RegistryLends.{LendsValue};
 ghost use Rattle.cal_connection.specs.contracts.shared_management_data.SharedManagementData.{the_row};
 ghost use Rattle.cal_connection.specs.Channel.{send_answer, after_send, reclaim_answer, after_reclaim};
 ghost use Rattle.cal_connection.specs.Port.{port_at, settings_at, channel_of, with_channel_of, is_in_use, IsWithin, IsSendable};
-ghost use Rattle.cal_connection.specs.RegistryLemmas.{KeepsHandles-with_port};
 
 use crate::channel_id::ChannelId;
 use crate::errors::{ZeroCopyReclaimError, ZeroCopySendError};
@@ -113,7 +112,7 @@ impl<S: DynamicStorage<SharedManagementData>> ZeroCopyPortDetails for Sender<S> 
 }
 
 impl<S: DynamicStorage<SharedManagementData>> ZeroCopySender for Sender<S> {
-    #[tactic(auto, using(KeepsHandles-with_port))]
+    #[tactic(auto, using(crate::proofs::Written::keeps_handles))]
     fn try_send(
         &mut self,
         reg: &mut Registry<SharedManagementData>,
@@ -135,7 +134,7 @@ impl<S: DynamicStorage<SharedManagementData>> ZeroCopySender for Sender<S> {
             .is_in_use(ptr, sample_size, channel_id.value())
     }
 
-    #[tactic(auto, using(KeepsHandles-with_port))]
+    #[tactic(auto, using(crate::proofs::Written::keeps_handles))]
     fn reclaim(
         &mut self,
         reg: &mut Registry<SharedManagementData>,

@@ -8,7 +8,6 @@ ghost use Rattle.cal_storage.specs.Holding.{KeepsHandles};
 ghost use Rattle.cal_storage.specs.RegistryLends.{LendsValue};
 ghost use Rattle.cal_connection.specs.contracts.shared_management_data.SharedManagementData.{the_row};
 ghost use Rattle.cal_connection.specs.Port.{port_at, settings_at, channel_of, word_of, with_word_of};
-ghost use Rattle.cal_connection.specs.RegistryLemmas.{KeepsHandles-with_port};
 ghost use Rattle.cal_connection.specs.Words.{is_connected, is_closed, has_hint, has_state, after_set, after_hint, after_close};
 
 use crate::channel_id::ChannelId;
@@ -138,7 +137,7 @@ pub trait ZeroCopyPortDetails: Debug + Drop + NamedConcept {
     }
 
     /// Puts a closed channel into this state, and answers whether it was closed. Another channel stays as it is.
-    #[tactic(auto, using(KeepsHandles-with_port))]
+    #[tactic(auto, using(crate::proofs::Written::keeps_handles))]
     fn set_channel_state(
         &self,
         reg: &mut Registry<SharedManagementData>,
@@ -159,7 +158,7 @@ pub trait ZeroCopyPortDetails: Debug + Drop + NamedConcept {
     }
 
     /// Asks the other side to disconnect, where the channel is in this state and it isn't asked yet.
-    #[tactic(auto, using(KeepsHandles-with_port))]
+    #[tactic(auto, using(crate::proofs::Written::keeps_handles))]
     fn set_disconnect_hint(
         &self,
         reg: &mut Registry<SharedManagementData>,
@@ -178,7 +177,7 @@ pub trait ZeroCopyPortDetails: Debug + Drop + NamedConcept {
     }
 
     /// Closes a channel, where it is in this state, whether or not the other side is asked to disconnect.
-    #[tactic(auto, using(KeepsHandles-with_port))]
+    #[tactic(auto, using(crate::proofs::Written::keeps_handles))]
     fn close_channel(
         &self,
         reg: &mut Registry<SharedManagementData>,

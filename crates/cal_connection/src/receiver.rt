@@ -7,7 +7,6 @@ ghost use Rattle.cal_storage.specs.RegistryLends.{LendsValue};
 ghost use Rattle.cal_connection.specs.contracts.shared_management_data.SharedManagementData.{the_row};
 ghost use Rattle.cal_connection.specs.Channel.{receive_answer, after_receive, count_after_receive, release_answer, after_release, count_after_release, is_empty};
 ghost use Rattle.cal_connection.specs.Port.{ReceiverEnd, settings_at, channel_of, with_channel_of, count_at, with_count};
-ghost use Rattle.cal_connection.specs.RegistryLemmas.{KeepsHandles-with_port};
 
 use crate::channel_id::ChannelId;
 use crate::errors::{ZeroCopyReceiveError, ZeroCopyReleaseError};
@@ -134,7 +133,7 @@ impl<S: DynamicStorage<SharedManagementData>> ZeroCopyReceiver for Receiver<S> {
         !self.management_data(reg).is_empty(channel_id.value())
     }
 
-    #[tactic(auto, using(KeepsHandles-with_port))]
+    #[tactic(auto, using(crate::proofs::Written::keeps_handles))]
     fn receive(
         &mut self,
         reg: &mut Registry<SharedManagementData>,
@@ -149,7 +148,7 @@ impl<S: DynamicStorage<SharedManagementData>> ZeroCopyReceiver for Receiver<S> {
         answer
     }
 
-    #[tactic(auto, using(KeepsHandles-with_port))]
+    #[tactic(auto, using(crate::proofs::Written::keeps_handles))]
     fn release(
         &mut self,
         reg: &mut Registry<SharedManagementData>,
