@@ -1,12 +1,13 @@
 //! What both ports of a connection tell of it, and the states of its channels. Ported from `zero_copy_connection/mod.rs` of
 //! iceoryx2-cal 0.9.3.
-ghost use Rattle.std.specs.Prelude.{◌≡◌, ◌<◌, ◌==◌};
+ghost use Rattle.std.specs.Prelude.{◌≡◌, ◌<◌, ℕ};
 ghost use Rattle.std.specs.Borrow.{sem};
 ghost use Rattle.cal_storage.specs.declared.handle.Handle.{Handle};
 ghost use Rattle.cal_storage.specs.Contents.{Has};
-ghost use Rattle.cal_storage.specs.Holding.{KeepsHandles};
+ghost use Rattle.cal_storage.specs.Holding.{KeepsHandles, KeepsOtherHandles, LeavesSharers};
 ghost use Rattle.cal_storage.specs.RegistryLends.{LendsValue};
 ghost use Rattle.cal_connection.specs.contracts.shared_management_data.SharedManagementData.{the_row};
+ghost use Rattle.cal_connection.specs.Closing.{after_end};
 ghost use Rattle.cal_connection.specs.Port.{port_at, settings_at, channel_of, word_of, with_word_of};
 ghost use Rattle.cal_connection.specs.Words.{is_connected, is_closed, has_hint, has_state, after_set, after_hint, after_close};
 
@@ -23,6 +24,9 @@ use std::fmt::Debug;
 pub trait ZeroCopyPortDetails: Debug + Drop + NamedConcept {
     // The handle of the connection's entry.
     ghost handle: { Self → Handle };
+
+    // The bit of the port in the word that says which ports are there.
+    ghost bit: { ℕ };
 
     /// What the ports of the connection share.
     fn management_data<'r>(
@@ -194,4 +198,12 @@ pub trait ZeroCopyPortDetails: Debug + Drop + NamedConcept {
         let next = words::after_close(word, state.value());
         Self::management_data_mut(reg, self).set_channel_word(channel_id.value(), next);
     }
+
+    /// Ends the port: its bit goes, or the connection is marked where it is the last one there. Its handle is closed, and the
+    /// last port takes the name with it where this still stands for its entry.
+    fn close(self, reg: &mut Registry<SharedManagementData>)
+        requires { Has reg.old (handle self) }
+        ensures closed { reg.new ≡ after_end reg.old (handle self) bit }
+        ensures keeps_others { KeepsOtherHandles reg.old reg.new (handle self).id }
+        ensures leaves_sharers { LeavesSharers reg.old reg.new (handle self).id };
 }

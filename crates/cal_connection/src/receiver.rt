@@ -1,18 +1,21 @@
 //! The receiving end of a connection. Ported from `zero_copy_connection/common.rs` of iceoryx2-cal 0.9.3.
-ghost use Rattle.std.specs.Prelude.{◌≡◌, ◌<◌, not, length};
+ghost use Rattle.std.specs.Prelude.{◌≡◌, ◌%◌, ◌<◌, not, length};
 ghost use Rattle.std.specs.Borrow.{sem};
 ghost use Rattle.cal_storage.specs.Contents.{Has};
 ghost use Rattle.cal_storage.specs.Holding.{KeepsHandles};
 ghost use Rattle.cal_storage.specs.RegistryLends.{LendsValue};
 ghost use Rattle.cal_connection.specs.contracts.shared_management_data.SharedManagementData.{the_row};
 ghost use Rattle.cal_connection.specs.Channel.{receive_answer, after_receive, count_after_receive, release_answer, after_release, count_after_release, is_empty};
+ghost use Rattle.cal_connection.specs.Words.{receiver_bit};
 ghost use Rattle.cal_connection.specs.Port.{ReceiverEnd, settings_at, channel_of, with_channel_of, count_at, with_count};
 
 use crate::channel_id::ChannelId;
+use crate::closing::close_end;
 use crate::errors::{ZeroCopyReceiveError, ZeroCopyReleaseError};
 use crate::port_details::ZeroCopyPortDetails;
 use crate::shared_management_data::SharedManagementData;
-use cal_alloc::PointerOffset;
+use crate::words::RECEIVER_BIT;
+use cal_alloc::{PointerOffset, SegmentId};
 use cal_names::{FileName, NamedConcept};
 use cal_storage::{DynamicStorage, Registry};
 use std::marker::Model;
@@ -98,6 +101,21 @@ impl<S: DynamicStorage<SharedManagementData>> Model for Receiver<S> {
     } };
 }
 
+impl<S: DynamicStorage<SharedManagementData>> Receiver<S> {
+    /// The segment of an index that counts the segments of one channel after another.
+    pub fn segment_id_from_index(
+        &self,
+        reg: &Registry<SharedManagementData>,
+        index: usize,
+    ) -> SegmentId
+        requires { Has reg.now self.now.handle }
+        ensures value { result ≡ index % (settings_at reg.now self.now.handle).number_of_segments }
+    {
+        let settings = self.management_data(reg).settings();
+        SegmentId::new((index % settings.number_of_segments as usize) as u8)
+    }
+}
+
 impl<S: DynamicStorage<SharedManagementData>> NamedConcept for Receiver<S> {
     ghost concept_name = { λ r. r.name };
 
@@ -108,6 +126,8 @@ impl<S: DynamicStorage<SharedManagementData>> NamedConcept for Receiver<S> {
 
 impl<S: DynamicStorage<SharedManagementData>> ZeroCopyPortDetails for Receiver<S> {
     ghost handle = { λ r. r.handle };
+
+    ghost bit = { receiver_bit };
 
     fn management_data<'r>(
         &self,
@@ -121,6 +141,15 @@ impl<S: DynamicStorage<SharedManagementData>> ZeroCopyPortDetails for Receiver<S
         port: &Self,
     ) -> &'r mut SharedManagementData {
         S::get_mut(reg, &port.storage)
+    }
+
+    fn close(self, reg: &mut Registry<SharedManagementData>) {
+        let Receiver {
+            name: _,
+            storage,
+            borrow_counts: _,
+        } = self;
+        close_end(reg, storage, RECEIVER_BIT);
     }
 }
 

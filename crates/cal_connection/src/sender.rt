@@ -1,21 +1,28 @@
 //! The sending end of a connection. Ported from `zero_copy_connection/common.rs` of iceoryx2-cal 0.9.3.
-ghost use Rattle.std.specs.Prelude.{◌≡◌, ◌<◌, IfErr};
+ghost use Rattle.std.specs.Prelude.{◌≡◌, ◌%◌, ℕ, ◌<◌, ◌^◌};
 ghost use Rattle.std.specs.Borrow.{sem};
 ghost use Rattle.cal_storage.specs.Contents.{Has};
 ghost use Rattle.cal_storage.specs.Holding.{KeepsHandles};
 ghost use Rattle.cal_storage.specs.RegistryLends.{LendsValue};
 ghost use Rattle.cal_connection.specs.contracts.shared_management_data.SharedManagementData.{the_row};
+ghost use Rattle.cal_connection.specs.Backpressure.{obstacle, AnswersObstacle};
 ghost use Rattle.cal_connection.specs.Channel.{send_answer, after_send, reclaim_answer, after_reclaim};
+ghost use Rattle.cal_connection.specs.Words.{sender_bit};
 ghost use Rattle.cal_connection.specs.Port.{port_at, settings_at, channel_of, with_channel_of, is_in_use, IsWithin, IsSendable};
 
+use crate::backpressure::{BackpressureToReceiverAction, Clock};
+use crate::blocking::face;
 use crate::channel_id::ChannelId;
+use crate::closing::close_end;
 use crate::errors::{ZeroCopyReclaimError, ZeroCopySendError};
 use crate::port_details::ZeroCopyPortDetails;
 use crate::shared_management_data::SharedManagementData;
-use cal_alloc::PointerOffset;
+use crate::words::SENDER_BIT;
+use cal_alloc::{PointerOffset, SegmentId};
 use cal_names::{FileName, NamedConcept};
 use cal_storage::{DynamicStorage, Registry};
 use std::marker::Model;
+use std::sync::Wait;
 
 /// The end of a connection that sends offsets and takes them back.
 pub trait ZeroCopySender: ZeroCopyPortDetails {
@@ -34,6 +41,35 @@ pub trait ZeroCopySender: ZeroCopyPortDetails {
         requires sendable { IsSendable (port_at reg.old (Self.handle self.old)) channel_id ptr sample_size }
         ensures answer { result ≡ send_answer (settings_at reg.old (Self.handle self.old)).enable_safe_overflow
             (channel_of reg.old (Self.handle self.old) channel_id) ptr sample_size }
+        ensures sent { reg.new ≡ with_channel_of reg.old (Self.handle self.old) channel_id
+            (after_send (settings_at reg.old (Self.handle self.old)).enable_safe_overflow
+            (channel_of reg.old (Self.handle self.old) channel_id) ptr sample_size) }
+        ensures keeps { KeepsHandles reg.old reg.new }
+        ensures port { self.new ≡ self.old };
+
+    /// Sends an offset as `try_send` does, and asks the handler what to do while the queue is full and the connection doesn't
+    /// overflow, where both ports are there and the channel isn't closed. The handler is told the number of its earlier calls
+    /// and the ticks that have passed since the first look; `action` is what `FollowBackpressureyStrategy` stands for. Since
+    /// nobody else acts on the registry while it is lent, a handler that always answers `Retry` never lets the call return. A
+    /// refused call changes nothing, save after `ConnectionCorrupted`, as in `try_send`.
+    fn blocking_send<R: Wait, F: Fn(u64, u64) -> BackpressureToReceiverAction + Drop, C: Clock>(
+        &mut self,
+        rt: &R,
+        reg: &mut Registry<SharedManagementData>,
+        ptr: PointerOffset,
+        sample_size: usize,
+        channel_id: ChannelId,
+        handler: F,
+        action: BackpressureToReceiverAction,
+        clock: &mut C,
+    ) -> Result<Option<PointerOffset>, ZeroCopySendError>
+        requires there { Has reg.old (Self.handle self.old) }
+        requires sendable { IsSendable (port_at reg.old (Self.handle self.old)) channel_id ptr sample_size }
+        requires callable { (retry ticks : ℕ) → retry < 2 ^ 64 → ticks < 2 ^ 64 → F.pre handler retry ticks }
+        ensures answer { AnswersObstacle (λ retry answer. (ticks : ℕ) × (ticks < 2 ^ 64) × F.post handler retry ticks answer)
+            action (obstacle (port_at reg.old (Self.handle self.old)) channel_id)
+            (send_answer (settings_at reg.old (Self.handle self.old)).enable_safe_overflow
+            (channel_of reg.old (Self.handle self.old) channel_id) ptr sample_size) result }
         ensures sent { reg.new ≡ with_channel_of reg.old (Self.handle self.old) channel_id
             (after_send (settings_at reg.old (Self.handle self.old)).enable_safe_overflow
             (channel_of reg.old (Self.handle self.old) channel_id) ptr sample_size) }
@@ -85,6 +121,21 @@ impl<S: DynamicStorage<SharedManagementData>> Model for Sender<S> {
     ghost view = { λ s. record { name = s.name; handle = S.handle s.storage } };
 }
 
+impl<S: DynamicStorage<SharedManagementData>> Sender<S> {
+    /// The segment of an index that counts the segments of one channel after another.
+    pub fn segment_id_from_index(
+        &self,
+        reg: &Registry<SharedManagementData>,
+        index: usize,
+    ) -> SegmentId
+        requires { Has reg.now self.now.handle }
+        ensures value { result ≡ index % (settings_at reg.now self.now.handle).number_of_segments }
+    {
+        let settings = self.management_data(reg).settings();
+        SegmentId::new((index % settings.number_of_segments as usize) as u8)
+    }
+}
+
 impl<S: DynamicStorage<SharedManagementData>> NamedConcept for Sender<S> {
     ghost concept_name = { λ s. s.name };
 
@@ -95,6 +146,8 @@ impl<S: DynamicStorage<SharedManagementData>> NamedConcept for Sender<S> {
 
 impl<S: DynamicStorage<SharedManagementData>> ZeroCopyPortDetails for Sender<S> {
     ghost handle = { λ s. s.handle };
+
+    ghost bit = { sender_bit };
 
     fn management_data<'r>(
         &self,
@@ -109,6 +162,11 @@ impl<S: DynamicStorage<SharedManagementData>> ZeroCopyPortDetails for Sender<S> 
     ) -> &'r mut SharedManagementData {
         S::get_mut(reg, &port.storage)
     }
+
+    fn close(self, reg: &mut Registry<SharedManagementData>) {
+        let Sender { name: _, storage } = self;
+        close_end(reg, storage, SENDER_BIT);
+    }
 }
 
 impl<S: DynamicStorage<SharedManagementData>> ZeroCopySender for Sender<S> {
@@ -121,6 +179,23 @@ impl<S: DynamicStorage<SharedManagementData>> ZeroCopySender for Sender<S> {
         channel_id: ChannelId,
     ) -> Result<Option<PointerOffset>, ZeroCopySendError> {
         Self::management_data_mut(reg, self).try_send(ptr, sample_size, channel_id.value())
+    }
+
+    #[tactic(auto, using(crate::proofs::Written::keeps_handles))]
+    fn blocking_send<R: Wait, F: Fn(u64, u64) -> BackpressureToReceiverAction + Drop, C: Clock>(
+        &mut self,
+        rt: &R,
+        reg: &mut Registry<SharedManagementData>,
+        ptr: PointerOffset,
+        sample_size: usize,
+        channel_id: ChannelId,
+        handler: F,
+        action: BackpressureToReceiverAction,
+        clock: &mut C,
+    ) -> Result<Option<PointerOffset>, ZeroCopySendError> {
+        let obstacle = self.management_data(reg).obstacle(channel_id.value());
+        face(rt, obstacle, &handler, action, clock)?;
+        self.try_send(reg, ptr, sample_size, channel_id)
     }
 
     fn is_in_use(

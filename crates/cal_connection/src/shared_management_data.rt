@@ -1,16 +1,21 @@
 //! The entry of a connection, which both of its ports see. Ported from `zero_copy_connection/common.rs` of iceoryx2-cal
 //! 0.9.3.
-ghost use Rattle.std.specs.Prelude.{◌≡◌, ◌<◌, ◌≤◌, ◌^◌, Some, length, codes, IfOk, if◌then◌else◌};
+ghost use Rattle.std.specs.Prelude.{◌≡◌, ◌<◌, ◌≤◌, ◌^◌, Some, false, length, map, codes, IfOk, if◌then◌else◌};
 ghost use Rattle.cal_alloc.specs.PointerOffset.{offset_of, segment_of};
+ghost use Rattle.cal_connection.specs.Backpressure.{obstacle};
 ghost use Rattle.cal_connection.specs.Channel.{send_answer, after_send, receive_answer, after_receive, release_answer, after_release, reclaim_answer, after_reclaim, is_empty, is_full, with_word};
+ghost use Rattle.cal_connection.specs.Closing.{without_bit, with_closed_channels, closed_channel};
+ghost use Rattle.cal_connection.specs.Creation.{join_refusal, with_bit};
 ghost use Rattle.cal_connection.specs.Port.{IsSoundPort, channel_at, with_channel, is_in_use, IsWithin, new_port};
 ghost use Rattle.cal_connection.specs.PortLemmas.{length-channels};
 ghost use Rattle.cal_connection.specs.Settings.{completion_size, IsClamped, incompatibility};
 ghost use Rattle.cal_connection.specs.Words.{IsPortWord, IsPortBit, has_bit, mark, is_connected, leaves_mark, after_leave};
 
+use crate::backpressure::Obstacle;
 use crate::channel::Channel;
 use crate::errors::{
-    ZeroCopyReceiveError, ZeroCopyReclaimError, ZeroCopyReleaseError, ZeroCopySendError,
+    ZeroCopyCreationError, ZeroCopyReceiveError, ZeroCopyReclaimError, ZeroCopyReleaseError,
+    ZeroCopySendError,
 };
 use crate::settings::ConnectionSettings;
 use crate::words;
@@ -49,6 +54,76 @@ impl NamedType for SharedManagementData {
 }
 
 impl SharedManagementData {
+    /// An entry with this port word, whose channels begin in this state. The error is want of memory.
+    pub(crate) fn new(
+        alloc: Global,
+        settings: &ConnectionSettings,
+        word: u8,
+        state: u64,
+    ) -> Result<Self, AllocError>
+        requires clamped { IsClamped settings.now }
+        requires fits { completion_size settings.now < 2 ^ 63 }
+        requires word { IsPortWord word }
+        ensures new { IfOk result (λ entry. entry ≡ new_port settings.now word state) }
+    {
+        let mut channels = Vec::with_capacity(alloc, settings.number_of_channels)?;
+        for _ in 0..settings.number_of_channels {
+            channels.push(Channel::new(alloc, settings, state)?)?;
+        }
+        Ok(SharedManagementData {
+            settings: *settings,
+            word,
+            channels,
+        })
+    }
+
+    /// Why the port of this bit, which asks for these settings, can't join: the first cause that holds.
+    pub(crate) fn join_refusal(
+        &self,
+        asked: &ConnectionSettings,
+        bit: u8,
+    ) -> Option<ZeroCopyCreationError>
+        requires bit { IsPortBit bit }
+        requires fits { completion_size asked.now < 2 ^ 63 }
+        ensures value { result ≡ join_refusal self.now asked.now bit }
+    {
+        if words::has_bit(self.word, bit) {
+            Some(ZeroCopyCreationError::AnotherInstanceIsAlreadyConnected)
+        } else if words::is_marked(self.word) {
+            Some(ZeroCopyCreationError::IsBeingCleanedUp)
+        } else {
+            self.settings.incompatibility(asked)
+        }
+    }
+
+    /// The port of this bit joins.
+    pub(crate) fn join(&mut self, bit: u8)
+        requires bit { IsPortBit bit }
+        requires absent { has_bit self.old.word bit ≡ false }
+        requires unmarked { has_bit self.old.word mark ≡ false }
+        ensures joined { self.new ≡ with_bit self.old bit }
+    {
+        self.word = words::after_join(self.word, bit);
+    }
+
+    /// The port of this bit leaves, and answers whether it was the last.
+    pub(crate) fn leave(&mut self, bit: u8) -> bool
+        requires { IsPortBit bit }
+        ensures last { result ≡ leaves_mark self.old.word bit }
+        ensures left { self.new ≡ without_bit self.old bit }
+    {
+        let is_last = words::leaves_mark(self.word, bit);
+        self.word = words::after_leave(self.word, bit);
+        is_last
+    }
+
+    /// Closes all channels, whatever state they are in.
+    pub(crate) fn close_all_channels(&mut self)
+        ensures closed { self.new ≡ with_closed_channels self.old }
+    {
+        close_all(&mut self.channels);
+    }
+
     /// Sends an offset, whose sample has that size in bytes, on a channel.
     pub(crate) fn try_send(
         &mut self,
@@ -137,6 +212,22 @@ impl SharedManagementData {
         self.channels[channel].is_full()
     }
 
+    /// What stands in the way of a send on a channel.
+    pub(crate) fn obstacle(&self, channel: usize) -> Obstacle
+        requires { channel < self.now.settings.number_of_channels }
+        ensures value { result ≡ obstacle self.now channel }
+    {
+        if self.settings.enable_safe_overflow || !self.is_full(channel) {
+            Obstacle::Nothing
+        } else if !self.is_connected() {
+            Obstacle::NoReceiver
+        } else if words::is_closed(self.channel_word(channel)) {
+            Obstacle::ClosedChannel
+        } else {
+            Obstacle::FullQueue
+        }
+    }
+
     /// The word of a channel.
     pub(crate) fn channel_word(&self, channel: usize) -> u64
         requires { channel < self.now.settings.number_of_channels }
@@ -167,5 +258,14 @@ impl SharedManagementData {
         ensures sound { IsSoundPort self.now }
     {
         &self.settings
+    }
+}
+
+/// Closes channels, whatever state they are in.
+fn close_all(channels: &mut [Channel])
+    ensures closed { channels.new ≡ map closed_channel channels.old }
+{
+    for index in 0..channels.len() {
+        channels[index].set_word(words::CLOSED);
     }
 }

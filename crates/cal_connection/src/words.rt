@@ -5,7 +5,7 @@ ghost use Rattle.cal_connection.specs.Words.{is_closed, without_hint, with_hint,
 use crate::channel_state::CHANNEL_STATE_DISCONNECT_HINT_BIT;
 
 /// The word of a closed channel.
-const CLOSED: u64 = u64::MAX;
+pub(crate) const CLOSED: u64 = u64::MAX;
 
 /// The bit of the sender in the port word.
 pub(crate) const SENDER_BIT: u8 = 1;
@@ -96,6 +96,18 @@ pub(crate) fn is_connected(word: u8) -> bool
     ensures value { result ≡ is_connected word }
 {
     has_bit(word, SENDER_BIT) && has_bit(word, RECEIVER_BIT)
+}
+
+/// The word after the port of this bit has joined.
+pub(crate) fn after_join(word: u8, bit: u8) -> u8
+    requires word { IsPortWord word }
+    requires bit { IsPortBit bit }
+    requires absent { has_bit word bit ≡ false }
+    requires unmarked { has_bit word mark ≡ false }
+    ensures value { result ≡ word + bit }
+    ensures sound { IsPortWord result }
+{
+    word + bit
 }
 
 /// Whether the port of this bit is the only one.
