@@ -10,6 +10,10 @@ use Rattle.cal_connection.specs.Words.{is_connected, is_closed}
 use Rattle.cal_connection.specs.declared.errors.ZeroCopySendError.{ZeroCopySendError}
 use Rattle.cal_connection.specs.declared.errors.ZeroCopySendError.TheVariants.{NoConnectedReceiverAndBufferIsFull, ChannelIsClosed, UnableToDeliver}
 
+-- the answer of what is done before a send, where the send then follows
+abbrev pub passes : Result (Unit {0}) ZeroCopySendError
+passes = Ok tt
+
 -- what stands in the way of a send on a channel
 abbrev pub obstacle : PortEntry → ℕ → Obstacle
 obstacle port channel =

@@ -1,6 +1,6 @@
 //! The turns of a blocking send. Ported from `zero_copy_connection/common.rs` of iceoryx2-cal 0.9.3.
-ghost use Rattle.std.specs.Prelude.{◌≡◌, ℕ, ◌<◌, ◌^◌, Ok};
-ghost use Rattle.cal_connection.specs.Backpressure.{SomeAnswersEnd, AnswersObstacle, ends_turns, asks_again, sets_fail_mark};
+ghost use Rattle.std.specs.Prelude.{◌≡◌, ℕ, ◌<◌, ◌^◌};
+ghost use Rattle.cal_connection.specs.Backpressure.{SomeAnswersEnd, AnswersObstacle, passes, ends_turns, asks_again, sets_fail_mark};
 
 use crate::backpressure::{BackpressureToReceiverAction, Clock, Obstacle};
 use crate::errors::ZeroCopySendError;
@@ -96,7 +96,7 @@ pub(crate) fn face<R: Wait, F: Fn(u64, u64) -> BackpressureToReceiverAction, C: 
 ) -> Result<(), ZeroCopySendError>
     requires { (retry ticks : ℕ) → retry < 2 ^ 64 → ticks < 2 ^ 64 → F.pre handler.now retry ticks }
     ensures answer { AnswersObstacle (λ retry answer.
-        (ticks : ℕ) × (ticks < 2 ^ 64) × F.post handler.now retry ticks answer) strategy obstacle (Ok tt) result }
+        (ticks : ℕ) × (ticks < 2 ^ 64) × F.post handler.now retry ticks answer) strategy obstacle passes result }
 {
     match obstacle {
         Obstacle::Nothing => Ok(()),

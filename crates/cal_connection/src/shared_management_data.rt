@@ -262,8 +262,8 @@ impl SharedManagementData {
 }
 
 /// Closes channels, whatever state they are in.
-fn close_all(channels: &mut [Channel])
-    ensures closed { channels.new ≡ map closed_channel channels.old }
+fn close_all(channels: &mut Vec<Channel>)
+    ensures closed { channels.new.items ≡ map closed_channel channels.old.items }
 {
     for index in 0..channels.len() {
         channels[index].set_word(words::CLOSED);
