@@ -38,10 +38,12 @@ longer sent value n within = omega (arith, length-append sent (value ∷ []))
 module _ (side : Side) (traffic : Traffic) (shows : Shows side traffic) where
   after_sends : (pointer : ℕ) (segments : List SegmentDetails) (refused full : Bool) →
       (full ≡ true → 1 ≤ length side.channel.submission.values) →
-      Shows (record side { channel = if refused then side.channel else record side.channel {
-        submission = pushed (if full then popped side.channel.submission else side.channel.submission) pointer;
-        segments = segments;
-      } })
+      Shows (record side {
+        channel = if refused then side.channel else record side.channel {
+          submission = pushed (if full then popped side.channel.submission else side.channel.submission) pointer;
+          segments = segments;
+        };
+      })
       (if refused then traffic else record traffic {
         sent = traffic.sent ++ pointer ∷ [];
         left = (if full then traffic.left + 1 else traffic.left);
@@ -120,10 +122,12 @@ module _ (side : Side) (traffic : Traffic) (shows : Shows side traffic) where
       one_less same more = omega arith
 
   after_reclaims : (segments : List SegmentDetails) (values : List ℕ) → values ≡ side.channel.completion.values →
-      Shows (record side { channel = record side.channel {
-        completion = record side.channel.completion { values = drop 1 values };
-        segments = segments;
-      } }) (traffic_after_reclaim (slice_get values 0) traffic)
+      Shows (record side {
+        channel = record side.channel {
+          completion = record side.channel.completion { values = drop 1 values };
+          segments = segments;
+        };
+      }) (traffic_after_reclaim (slice_get values 0) traffic)
   after_reclaims segments [] is = record {
     room = shows.room;
     queued = shows.queued;
