@@ -1,4 +1,6 @@
 pub mod BumpServing
+pub mod FreeChains
+pub mod Freed
 pub mod Marks
 pub mod Padding
 pub mod PoolFacts
@@ -6,3 +8,4 @@ pub mod PoolLemmas
 pub mod PoolServing
 pub mod Powers
 pub mod Results
+pub mod RunLaws

@@ -3,6 +3,7 @@ use Rattle.std.proofs.Common.{◌≡◌, ℕ, zero, suc, ◌+◌, ◌-◌, ◌*�
 use Rattle.std.specs.Int.{next_multiple_of, is_power_of_two}
 use Rattle.std.proofs.lemmas.Nat.{div-add-mod', mod_below, mod-mul-add}
 use Rattle.std.proofs.Math.Nat.{mod_self, mod-eq_of_lt, sub-zero}
+use Rattle.cal_alloc.specs.Multiples.{nothing-missing, next_multiple_of-multiple}
 use Rattle.std.proofs.lemmas.Bool.{false≢true, cases_lt}
 use lib.Count.{ones}
 
@@ -11,25 +12,6 @@ pub positive_power : (n : ℕ) → IsTrue (is_power_of_two n) → 0 < n
 unfolding ones
 positive_power zero power = absurd (false≢true power)
 positive_power (suc n) power = omega arith
-
--- where x isn't a multiple, what is missing is below y
-missing : (x y : ℕ) → 0 < y → 0 < x % y → (y - x % y) % y ≡ y - x % y
-missing x y positive part = mod-eq_of_lt (omega (arith, mod_below x y positive))
-
--- where x is one, nothing is missing
-nothing-missing : (x y : ℕ) → x % y ≡ 0 → (y - x % y) % y ≡ 0
-nothing-missing x y whole = rw (whole, sub-zero) (mod_self y)
-
--- it is so many times y
-pub next_multiple_of-multiple : (x y : ℕ) → 0 < y → (k : ℕ) × (next_multiple_of x y ≡ k * y)
-next_multiple_of-multiple x y positive = from (x % y) refl
-  where
-    from : (r : ℕ) → x % y ≡ r → (k : ℕ) × (x + (y - x % y) % y ≡ k * y)
-    from zero e = (x / y, omega (arith, div-add-mod' x y, nothing-missing x y e, e))
-    from (suc r) e =
-        let part : 0 < x % y = omega (arith, e) in
-        let product : (x / y + 1) * y ≡ x / y * y + y = omega arith in
-        (x / y + 1, omega (arith, div-add-mod' x y, missing x y positive part, mod_below x y positive, product))
 
 -- a multiple stays as it is
 pub next_multiple_of-same : (k y : ℕ) → 0 < y → next_multiple_of (k * y) y ≡ k * y

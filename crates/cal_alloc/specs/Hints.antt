@@ -1,4 +1,5 @@
--- What memory an allocator proposes: a payload size, and the configuration to go with it; None where that is out of range.
+-- What memory an allocator proposes: a payload size, and the configuration to go with it; None where that is out of
+-- range.
 use Rattle.std.specs.Prelude.{ℕ, ◌+◌, ◌*◌, ◌^◌, ◌-◌, Bool, ◌&&◌, nat_lt, nat_le, if◌then◌else◌, Option, Some, None}
 use Rattle.cal_alloc.specs.Growth.{padded_size, grown_buckets, least_power_of_two}
 use Rattle.cal_alloc.specs.SizeAndAlignment.{SizeAndAlignment}
@@ -19,11 +20,15 @@ abbrev pub pool_setup_hint : SizeAndAlignment → ℕ → Option (SharedMemorySe
 pool_setup_hint layout count =
     let size = padded_size layout.size layout.alignment in
     if is_in_range size count
-    then Some (record { payload_size = size * count; config = record { bucket_layout = record { size = size; alignment = layout.alignment } } })
+    then Some (record {
+      payload_size = size * count;
+      config = record { bucket_layout = record { size = size; alignment = layout.alignment } };
+    })
     else None
 
 -- memory for the buckets that a strategy takes next
-abbrev pub pool_resize_hint : Pool → SizeAndAlignment → AllocationStrategy → Option (SharedMemorySetupHint PoolConfig.Config)
+abbrev pub pool_resize_hint : Pool → SizeAndAlignment → AllocationStrategy →
+    Option (SharedMemorySetupHint PoolConfig.Config)
 pool_resize_hint pool layout strategy =
     let grown = grown_buckets strategy pool.buckets (is_full pool) layout.size layout.alignment in
     pool_setup_hint (record { size = grown.size; alignment = grown.alignment }) grown.count
@@ -39,6 +44,8 @@ raised_payload PowerOfTwo payload size = least_power_of_two (payload + size)
 raised_payload Static payload size = payload
 
 -- the payload stays where more bytes are free than the chunk has
-abbrev pub bump_resize_hint : Bump → SizeAndAlignment → AllocationStrategy → Option (SharedMemorySetupHint BumpConfig.Config)
+abbrev pub bump_resize_hint : Bump → SizeAndAlignment → AllocationStrategy →
+    Option (SharedMemorySetupHint BumpConfig.Config)
 bump_resize_hint bump layout strategy =
-    bump_hint (if nat_lt layout.size (bump.total - bump.used) then bump.total else raised_payload strategy bump.total layout.size)
+    bump_hint (if nat_lt layout.size (bump.total - bump.used) then bump.total else raised_payload strategy bump.total
+    layout.size)

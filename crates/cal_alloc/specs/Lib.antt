@@ -1,10 +1,14 @@
 pub mod Bump
 pub mod BumpLaws
 pub mod Chunks
+pub mod FreeBuckets
+pub mod FreeChain
 pub mod Growth
 pub mod Hints
+pub mod Multiples
 pub mod PointerOffset
 pub mod Pool
 pub mod PoolFields
 pub mod PoolLaws
+pub mod Runs
 pub mod SizeAndAlignment

@@ -3,7 +3,7 @@
 use Rattle.std.specs.Prelude.{ℕ, ◌*◌, ◌/◌, ◌^◌, ◌<◌, ◌≤◌, ◌≡◌, IsTrue, length, List, Bool, true, false, ◌&&◌, nat_lt, nat_le, if◌then◌else◌, Option, Some, None, slice_index_or, slice_set, replicate, count_by}
 use Rattle.std.specs.List.{list_all}
 use Rattle.std.specs.Int.{is_power_of_two, next_multiple_of}
-use Rattle.cal_alloc.specs.Growth.{Buckets, bucket_size_of}
+use Rattle.cal_alloc.specs.Growth.{SegmentLayout, bucket_size_of}
 use Rattle.cal_alloc.specs.Chunks.{Properties}
 use Rattle.cal_alloc.specs.SizeAndAlignment.{SizeAndAlignment}
 use Rattle.cal_alloc.specs.PointerOffset.{pointer_offset, offset_of}
@@ -13,13 +13,13 @@ use Rattle.cal_alloc.specs.declared.shm_allocator.ShmAllocationError.TheVariants
 -- its buckets, the greatest alignment that its memory gives, a mark for each bucket that says whether it's used, and
 -- whether `init` has answered Ok
 pub record Pool : Type 0 where
-  pub buckets : Buckets
+  pub buckets : SegmentLayout
   pub memory_alignment : ℕ
   pub used : List Bool
   pub is_ready : Bool
 
 -- the buckets that memory of this size is cut into
-abbrev pub buckets_within : ℕ → SizeAndAlignment → Buckets
+abbrev pub buckets_within : ℕ → SizeAndAlignment → SegmentLayout
 buckets_within memory_size layout = record {
   size = bucket_size_of layout.size layout.alignment;
   alignment = layout.alignment;
@@ -30,7 +30,9 @@ buckets_within memory_size layout = record {
 -- 2 ^ 32 of them
 abbrev pub pool_fits : ℕ → SizeAndAlignment → Bool
 pool_fits memory_size layout =
-    nat_le memory_size (2 ^ 56) && (nat_lt (buckets_within memory_size layout).size (2 ^ 64) && nat_lt (buckets_within memory_size layout).count (2 ^ 32))
+    nat_le memory_size (2 ^ 56) &&
+    (nat_lt (buckets_within memory_size layout).size (2 ^ 64) && nat_lt (buckets_within memory_size layout).count
+    (2 ^ 32))
 
 -- a new pool: every bucket is free, and `init` is still to be called
 abbrev pub new_pool : ℕ → ℕ → SizeAndAlignment → Pool
@@ -54,12 +56,12 @@ abbrev pub is_full : Pool → Bool
 is_full pool = list_all (λ mark. mark) pool.used
 
 -- the first byte of a bucket
-abbrev pub start_of : Pool → ℕ → ℕ
-start_of pool bucket = bucket * pool.buckets.size
+abbrev pub offset_of_bucket : Pool → ℕ → ℕ
+offset_of_bucket pool bucket = bucket * pool.buckets.size
 
--- the bucket that a place lies in
-abbrev pub bucket_at : Pool → ℕ → ℕ
-bucket_at pool place = offset_of place / pool.buckets.size
+-- the bucket that a pointer lies in
+abbrev pub bucket_of : Pool → ℕ → ℕ
+bucket_of pool pointer = offset_of pointer / pool.buckets.size
 
 -- the pool, but this bucket marked as used or as free
 abbrev pub with_mark : Pool → ℕ → Bool → Pool
@@ -73,37 +75,38 @@ pool_refusal pool layout =
     else if is_full pool then Some OutOfMemory
     else None
 
--- what every pool keeps: buckets of at least one byte, a multiple of their alignment, all within 2 ^ 56 bytes, and one
--- mark for each
+-- what every pool keeps: buckets of at least one byte, a multiple of their alignment, all within 2 ^ 56 bytes, fewer
+-- than 2 ^ 32 of them, and one mark for each
 pub record IsSoundPool (pool : Pool) : Type 0 where
   pub not_empty : 0 < pool.buckets.size
   pub power : IsTrue (is_power_of_two pool.buckets.alignment)
   pub padded : next_multiple_of pool.buckets.size pool.buckets.alignment ≡ pool.buckets.size
   pub within : pool.buckets.count * pool.buckets.size ≤ 2 ^ 56
+  pub few : pool.buckets.count < 2 ^ 32
   pub marked : length pool.used ≡ pool.buckets.count
 
--- the new pool is the old one, but a bucket that was free is used: the one that starts at the place, in segment 0
-pub record GivesFreeBucket (old : Pool) (place : ℕ) (new : Pool) : Type 0 where
+-- the new pool is the old one, but a bucket that was free is used: the one that starts at the pointer, in segment 0
+pub record GivesFreeBucket (old : Pool) (pointer : ℕ) (new : Pool) : Type 0 where
   pub sound : IsSoundPool old
-  pub exists : bucket_at old place < old.buckets.count
-  pub was_free : is_used old (bucket_at old place) ≡ false
-  pub at_start : place ≡ pointer_offset (start_of old (bucket_at old place)) 0
-  pub after : new ≡ with_mark old (bucket_at old place) true
+  pub exists : bucket_of old pointer < old.buckets.count
+  pub was_free : is_used old (bucket_of old pointer) ≡ false
+  pub at_start : pointer ≡ pointer_offset (offset_of_bucket old (bucket_of old pointer)) 0
+  pub after : new ≡ with_mark old (bucket_of old pointer) true
 
--- the place is the start of a used bucket
-pub record IsUsedBucket (pool : Pool) (place : ℕ) : Type 0 where
-  pub at_start : offset_of place ≡ start_of pool (bucket_at pool place)
-  pub is_used : is_used pool (bucket_at pool place) ≡ true
+-- the pointer is the start of a used bucket
+pub record IsUsedBucket (pool : Pool) (pointer : ℕ) : Type 0 where
+  pub at_start : offset_of pointer ≡ offset_of_bucket pool (bucket_of pool pointer)
+  pub is_used : is_used pool (bucket_of pool pointer) ≡ true
 
--- the pool, but the bucket that starts at the place free
-abbrev pub given_back : Pool → ℕ → Pool
-given_back pool place = with_mark pool (bucket_at pool place) false
+-- the pool, but the bucket that starts at the pointer free
+abbrev pub after_deallocation : Pool → ℕ → Pool
+after_deallocation pool pointer = with_mark pool (bucket_of pool pointer) false
 
--- the new pool is the old one, but the bucket that starts at the place is free
-pub record FreesBucket (old : Pool) (place : ℕ) (new : Pool) : Type 0 where
+-- the new pool is the old one, but the bucket that starts at the pointer is free
+pub record FreesBucket (old : Pool) (pointer : ℕ) (new : Pool) : Type 0 where
   pub sound : IsSoundPool old
-  pub was_used : IsUsedBucket old place
-  pub after : new ≡ given_back old place
+  pub was_used : IsUsedBucket old pointer
+  pub after : new ≡ after_deallocation old pointer
 
 -- a byte lies in a used bucket
 abbrev pub IsInUsedBucket : Pool → ℕ → Type 0

@@ -1,14 +1,16 @@
 //! The bump allocator hands its memory out from the front on, and takes nothing back.
+//!
+//! Ported from `shm_allocator/bump_allocator.rs` of iceoryx2-cal 0.9.3.
 
 ghost use Rattle.std.specs.Prelude.{◌≡◌, ◌≢◌, ◌<◌, ◌^◌, ◌*◌, ◌+◌, true, false, nat_le, IsErrOf, OnOk, OnErr, SomeIff, ◌↔◌, refl};
 ghost use Rattle.std.specs.Result.{result_ok};
-ghost use Rattle.cal_alloc.specs.Bump.{new_bump, bump_refusal, GivesNextPlace, IsBelowUsed, IsOutBelowUsed, IsSkippedBefore, bump_properties};
-ghost use Rattle.cal_alloc.specs.BumpLaws.{new_bump-IsNew, readied_bump-IsReadied, GivesNextPlace-IsAllocation, same-IsDeallocation, bump_served, bump_refused_empty};
+ghost use Rattle.cal_alloc.specs.Bump.{IsSoundBump, new_bump, bump_refusal, GivesNextOffset, IsBelowUsed, IsAllocatedBelowUsed, IsPaddingBefore, bump_properties};
+ghost use Rattle.cal_alloc.specs.BumpLaws.{new_bump-IsNew, initialized_bump-IsInitialized, GivesNextOffset-IsAllocation, same-IsDeallocation, bump_used_below_total, bump_served, bump_aligned, bump_fits_limit, bump_refused_empty};
 ghost use Rattle.cal_alloc.specs.Hints.{bump_hint, bump_resize_hint, raised_payload};
 
 use crate::allocation_strategy::AllocationStrategy;
 use crate::growth::least_power_of_two;
-use crate::layout::{Layout, checked_next_multiple_of};
+use crate::layout::Layout;
 use crate::pointer_offset::PointerOffset;
 use crate::shm_allocator::{
     MAX_MEMORY_SIZE, SharedMemorySetupHint, ShmAllocationError, ShmAllocator, ShmAllocatorConfig,
@@ -22,7 +24,7 @@ const MAX_ALIGNMENT: usize = 8;
 
 /// The hint for a payload of that size; `SizeOutOfRange` where no memory can be so large.
 fn hint(payload_size: usize) -> Result<SharedMemorySetupHint<Config>, SizeOutOfRange>
-    ensures { result_ok result ≡ bump_hint payload_size }
+    ensures value { result_ok result ≡ bump_hint payload_size }
 {
     if MAX_MEMORY_SIZE < payload_size {
         return Err(SizeOutOfRange);
@@ -35,7 +37,7 @@ fn hint(payload_size: usize) -> Result<SharedMemorySetupHint<Config>, SizeOutOfR
 
 /// The payload size that a strategy takes next; `None` from 2^64 on.
 fn raised_payload(strategy: AllocationStrategy, payload_size: usize, size: usize) -> Option<usize>
-    ensures { let raised = raised_payload strategy payload_size size in
+    ensures value { let raised = raised_payload strategy payload_size size in
         SomeIff result (raised < 2 ^ 64) raised }
 {
     match strategy {
@@ -51,31 +53,35 @@ pub struct Config {}
 
 impl ShmAllocatorConfig for Config {}
 
-/// Hands out chunks one behind the other, each rounded up to its alignment. What is given back isn't used again.
+/// Hands out chunks one after the other, each rounded up to its alignment. What is given back isn't used again.
 #[derive(Debug, Drop)]
 pub struct BumpAllocator {
+    /// The bytes of its memory, at most 2^56.
     total: usize,
+    /// How many of them, from the first on, are handed out or skipped; at most the total.
     used: usize,
+    /// The greatest alignment that the memory gives, in bytes.
     memory_alignment: usize,
+    /// Whether `init` has answered Ok.
     is_ready: bool,
 }
 
 impl Model for BumpAllocator {
-    ghost use Rattle.std.specs.Prelude.{◌≤◌, ◌^◌};
-    ghost use Rattle.cal_alloc.specs.Bump.{Bump};
+    ghost use Rattle.cal_alloc.specs.Bump.{Bump, IsSoundBump};
 
     ghost Value = { Bump };
 
     ghost view = { λ a.
         record { total = a.total; used = a.used; memory_alignment = a.memory_alignment; is_ready = a.is_ready } };
 
-    ghost invariant = { λ a. (a.used ≤ a.total) × (a.total ≤ 2 ^ 56) };
+    ghost invariant = { λ a.
+        IsSoundBump (record { total = a.total; used = a.used; memory_alignment = a.memory_alignment; is_ready = a.is_ready }) };
 }
 
 impl BumpAllocator {
     /// The bytes of its memory, handed out or not.
     pub fn total_space(&self) -> usize
-        ensures { result ≡ self.now.total }
+        ensures value { result ≡ self.now.total }
     {
         self.total
     }
@@ -96,35 +102,43 @@ impl ShmAllocator for BumpAllocator {
 
     ghost initial_setup_hint = { λ layout count. bump_hint (layout.size * count) };
 
+    ghost IsSound = { IsSoundBump };
+
     ghost properties = { bump_properties };
 
-    ghost IsTaken = { IsBelowUsed };
+    ghost IsByteUsed = { IsBelowUsed };
 
-    ghost IsOut = { IsOutBelowUsed };
+    ghost IsAllocated = { IsAllocatedBelowUsed };
 
     ghost refusal = { bump_refusal };
 
     ghost resize_hint = { bump_resize_hint };
 
-    ghost readied = { λ bump. record bump { is_ready = true } };
+    ghost after_init = { λ bump. record bump { is_ready = true } };
 
-    ghost Allocates = { GivesNextPlace };
+    ghost Allocates = { GivesNextOffset };
 
-    ghost IsSkipped = { IsSkippedBefore };
+    ghost IsPadding = { IsPaddingBefore };
 
     ghost Deallocates = { λ old _ new. new ≡ old };
 
     ghost new_allocator = { λ alignment size _. new_bump-IsNew alignment size };
 
-    ghost readying = { readied_bump-IsReadied };
+    ghost initialization = { initialized_bump-IsInitialized };
 
-    ghost allocation = { GivesNextPlace-IsAllocation };
+    ghost allocation = { GivesNextOffset-IsAllocation };
 
     ghost deallocation = { same-IsDeallocation };
 
-    ghost out_is_taken = { λ _ _ out. out };
+    ghost allocated_is_used = { λ _ _ out. out };
+
+    ghost used_below_total = { bump_used_below_total };
 
     ghost served = { bump_served };
+
+    ghost aligned = { bump_aligned };
+
+    ghost fits_limit = { λ size _. bump_fits_limit size };
 
     ghost hint_of_one_byte = { refl };
 
@@ -175,7 +189,8 @@ impl ShmAllocator for BumpAllocator {
     }
 
     fn init(&mut self, _alloc: Global) -> Result<(), ShmAllocatorInitError>
-        ensures insufficient { IsErrOf result ShmAllocatorInitError.MaxSupportedMemoryAlignmentInsufficient ↔ (self.old.memory_alignment < 8) }
+        ensures insufficient { IsErrOf result ShmAllocatorInitError.MaxSupportedMemoryAlignmentInsufficient ↔
+            (self.old.memory_alignment < 8) }
         ensures never_failed { result ≢ Err ShmAllocatorInitError.AllocationFailed }
         ensures ok { OnOk result (self.new ≡ record self.old { is_ready = true }) }
         ensures err { OnErr result (self.new ≡ self.old) }
@@ -187,7 +202,9 @@ impl ShmAllocator for BumpAllocator {
         Ok(())
     }
 
-    fn unique_id() -> u8 {
+    fn unique_id() -> u8
+        ensures value { result ≡ 1 }
+    {
         1
     }
 
@@ -196,6 +213,8 @@ impl ShmAllocator for BumpAllocator {
     }
 
     fn max_alignment(&self) -> usize {
+        // A look at a field, so that the check knows what every allocator keeps.
+        let _ = &self.used;
         MAX_ALIGNMENT
     }
 
@@ -211,12 +230,12 @@ impl ShmAllocator for BumpAllocator {
         if layout.size() == 0 {
             return Err(ShmAllocationError::SizeIsZero);
         }
-        let place = checked_next_multiple_of(self.used, alignment).unwrap();
-        if self.total.saturating_sub(place) < layout.size() {
+        let offset = self.used.checked_next_multiple_of(alignment).unwrap();
+        if self.total.saturating_sub(offset) < layout.size() {
             return Err(ShmAllocationError::OutOfMemory);
         }
-        self.used = place + layout.size();
-        Ok(PointerOffset::new(place))
+        self.used = offset + layout.size();
+        Ok(PointerOffset::new(offset))
     }
 
     fn deallocate(&mut self, _distance: PointerOffset, _layout: Layout) {}

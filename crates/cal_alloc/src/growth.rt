@@ -4,13 +4,13 @@ ghost use Rattle.std.specs.Prelude.{◌<◌, ◌≡◌, ◌^◌, SomeIff};
 ghost use Rattle.cal_alloc.specs.Growth.{least_power_of_two, raised_count, raised_size};
 
 use crate::allocation_strategy::AllocationStrategy;
-use crate::layout::checked_next_multiple_of;
 
+/// The greatest power of two that a `usize` holds.
 const GREATEST_POWER_OF_TWO: usize = 1 << 63;
 
 /// The least power of two that is that number or more; `None` where it would be 2^64.
 pub(crate) fn least_power_of_two(n: usize) -> Option<usize>
-    ensures { SomeIff result (least_power_of_two n < 2 ^ 64) (least_power_of_two n) }
+    ensures value { SomeIff result (least_power_of_two n < 2 ^ 64) (least_power_of_two n) }
 {
     if n <= GREATEST_POWER_OF_TWO {
         Some(n.next_power_of_two())
@@ -21,7 +21,7 @@ pub(crate) fn least_power_of_two(n: usize) -> Option<usize>
 
 /// A number of buckets, raised where all of them are used.
 pub(crate) fn raised_count(strategy: AllocationStrategy, count: u32) -> usize
-    ensures { result ≡ raised_count strategy count }
+    ensures value { result ≡ raised_count strategy count }
 {
     let count = count as usize;
     match strategy {
@@ -37,14 +37,14 @@ pub(crate) fn raised_size(
     size: usize,
     alignment: usize,
 ) -> Option<usize>
-    requires { 0 < alignment }
-    ensures { let raised = raised_size strategy size alignment in
+    requires positive { 0 < alignment }
+    ensures value { let raised = raised_size strategy size alignment in
         SomeIff result (raised < 2 ^ 64) raised }
 {
     match strategy {
-        AllocationStrategy::BestFit => checked_next_multiple_of(size, alignment),
+        AllocationStrategy::BestFit => size.checked_next_multiple_of(alignment),
         AllocationStrategy::PowerOfTwo => {
-            checked_next_multiple_of(least_power_of_two(size)?, alignment)
+            least_power_of_two(size)?.checked_next_multiple_of(alignment)
         }
         AllocationStrategy::Static => Some(size),
     }

@@ -1,5 +1,5 @@
-ghost use Rattle.std.specs.Prelude.{◌≡◌, ◌<◌, ◌^◌, IsTrue, SomeIff};
-ghost use Rattle.std.specs.Int.{is_power_of_two, next_multiple_of};
+ghost use Rattle.std.specs.Prelude.{◌≡◌, IsTrue, SomeIff};
+ghost use Rattle.std.specs.Int.{is_power_of_two};
 
 use std::marker::Model;
 
@@ -7,7 +7,9 @@ use std::marker::Model;
 /// zero included, and needn't be a multiple of the alignment.
 #[derive(Clone, Copy, PartialEq, Eq, Debug)]
 pub struct Layout {
+    /// The size in bytes.
     size: usize,
+    /// The alignment in bytes, a power of two.
     alignment: usize,
 }
 
@@ -28,7 +30,7 @@ impl Model for Layout {
 impl Layout {
     /// A layout of a size in bytes and an alignment; `None` where the alignment is no power of two.
     pub fn new(size: usize, alignment: usize) -> Option<Layout>
-        ensures { SomeIff result (IsTrue (is_power_of_two alignment))
+        ensures value { SomeIff result (IsTrue (is_power_of_two alignment))
             (record { size = size; alignment = alignment }) }
     {
         if alignment.is_power_of_two() {
@@ -40,7 +42,7 @@ impl Layout {
 
     /// The size in bytes.
     pub fn size(&self) -> usize
-        ensures { result ≡ self.now.size }
+        ensures value { result ≡ self.now.size }
     {
         self.size
     }
@@ -52,13 +54,4 @@ impl Layout {
     {
         self.alignment
     }
-}
-
-/// The least multiple of the alignment that is the size or more; `None` from 2^64 on.
-pub(crate) fn checked_next_multiple_of(size: usize, alignment: usize) -> Option<usize>
-    requires { 0 < alignment }
-    ensures { let multiple = next_multiple_of size alignment in
-        SomeIff result (multiple < 2 ^ 64) multiple }
-{
-    size.checked_add((alignment - size % alignment) % alignment)
 }

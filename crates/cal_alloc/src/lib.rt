@@ -1,11 +1,13 @@
 //! Offsets, chunk layouts and the allocators that hand out chunks of a segment. The layer above rests on the trait
-//! `ShmAllocator`: on the exact answers of its calls, and on its laws, which hold at every allocator. The pool and the bump
-//! allocator are the two that there are.
+//! `ShmAllocator`: on the exact answers of its calls, and on its laws, which hold at every allocator. The pool and the
+//! bump allocator are the two that there are.
 #![tactic(auto)]
 
 mod allocation_strategy;
 pub mod bump_allocator;
+mod free_buckets;
 mod growth;
+pub mod laws;
 mod layout;
 mod pointer_offset;
 pub mod pool_allocator;

@@ -1,3 +1,4 @@
+//! Offsets and segments as one number. Ported from `shm_allocator/pointer_offset.rs` of iceoryx2-cal 0.9.3.
 ghost use Rattle.std.specs.Prelude.{◌≡◌, ◌<◌, ◌^◌, ◌*◌, ◌+◌, ◌/◌};
 ghost use Rattle.cal_alloc.specs.PointerOffset.{pointer_offset, offset_of, segment_of};
 
@@ -24,21 +25,21 @@ impl Model for SegmentId {
 impl SegmentId {
     /// The segment of this number.
     pub fn new(value: SegmentIdUnderlyingType) -> Self
-        ensures { result ≡ value }
+        ensures value { result ≡ value }
     {
         SegmentId(value)
     }
 
     /// The segment's number.
     pub fn value(&self) -> SegmentIdUnderlyingType
-        ensures { result ≡ self.now }
+        ensures value { result ≡ self.now }
     {
         self.0
     }
 
     /// The greatest number that a segment can have.
     pub fn max_segment_id() -> SegmentIdUnderlyingType
-        ensures { result ≡ 255 }
+        ensures value { result ≡ 255 }
     {
         SegmentIdUnderlyingType::MAX
     }
@@ -62,15 +63,15 @@ impl Model for PointerOffset {
 impl PointerOffset {
     /// An offset in bytes within segment 0.
     pub fn new(offset: usize) -> Self
-        requires { offset < 2 ^ 56 }
-        ensures { result ≡ pointer_offset offset 0 }
+        requires below { offset < 2 ^ 56 }
+        ensures value { result ≡ pointer_offset offset 0 }
     {
         Self::from_offset_and_segment_id(offset, SegmentId::new(0))
     }
 
     /// An offset in bytes within a segment.
     pub fn from_offset_and_segment_id(offset: usize, segment_id: SegmentId) -> Self
-        requires { offset < 2 ^ 56 }
+        requires below { offset < 2 ^ 56 }
         ensures value { result ≡ pointer_offset offset segment_id }
         ensures offset_back { offset_of result ≡ offset }
         ensures segment_back { segment_of result ≡ segment_id }
@@ -80,14 +81,14 @@ impl PointerOffset {
 
     /// The offset and the segment that are packed in this number.
     pub fn from_value(value: u64) -> Self
-        ensures { result ≡ value }
+        ensures value { result ≡ value }
     {
         PointerOffset(value)
     }
 
     /// The number that offset and segment are packed in.
     pub fn as_value(&self) -> u64
-        ensures { result ≡ self.now }
+        ensures value { result ≡ self.now }
     {
         self.0
     }
@@ -103,14 +104,14 @@ impl PointerOffset {
 
     /// The offset in bytes within its segment.
     pub fn offset(&self) -> usize
-        ensures { result ≡ offset_of self.now }
+        ensures value { result ≡ offset_of self.now }
     {
         (self.0 / 256) as usize
     }
 
     /// The segment.
     pub fn segment_id(&self) -> SegmentId
-        ensures { result ≡ segment_of self.now }
+        ensures value { result ≡ segment_of self.now }
     {
         SegmentId::new((self.0 % 256) as u8)
     }

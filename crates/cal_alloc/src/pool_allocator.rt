@@ -1,14 +1,18 @@
 //! The pool cuts its memory into equal buckets and hands each out whole.
+//!
+//! Ported from `shm_allocator/pool_allocator.rs` of iceoryx2-cal 0.9.3.
 
-ghost use Rattle.std.specs.Prelude.{◌≡◌, ◌<◌, ◌^◌, true, not, IsTrue, IsFalse, SomeIff, position, refl, if◌then◌else◌};
+ghost use Rattle.std.specs.Prelude.{◌≡◌, ◌<◌, ◌^◌, true, IsTrue, IsFalse, SomeIff, refl, if◌then◌else◌};
 ghost use Rattle.cal_alloc.specs.Growth.{bucket_size_of, grown_buckets, raised_count};
 ghost use Rattle.cal_alloc.specs.Hints.{pool_setup_hint, pool_resize_hint};
-ghost use Rattle.cal_alloc.specs.Pool.{IsSoundPool, pool_fits, buckets_within, new_pool, is_full, number_of_used, pool_properties, pool_refusal, GivesFreeBucket, IsUsedBucket, IsInUsedBucket, given_back, FreesBucket};
-ghost use Rattle.cal_alloc.specs.PoolLaws.{new_pool-IsNew, readied_pool-IsReadied, GivesFreeBucket-IsAllocation, FreesBucket-IsDeallocation, pool_served, pool_refused_empty};
+ghost use Rattle.cal_alloc.specs.Pool.{IsSoundPool, pool_fits, buckets_within, new_pool, is_full, number_of_used, bucket_of, offset_of_bucket, pool_properties, pool_refusal, GivesFreeBucket, IsUsedBucket, IsInUsedBucket, after_deallocation, FreesBucket};
+ghost use Rattle.cal_alloc.specs.PointerOffset.{pointer_offset};
+ghost use Rattle.cal_alloc.specs.PoolLaws.{new_pool-IsNew, initialized_pool-IsInitialized, GivesFreeBucket-IsAllocation, FreesBucket-IsDeallocation, pool_used_below_total, pool_served, pool_aligned, pool_fits_limit, pool_refused_empty};
 
 use crate::allocation_strategy::AllocationStrategy;
+use crate::free_buckets::FreeBuckets;
 use crate::growth::{raised_count, raised_size};
-use crate::layout::{Layout, checked_next_multiple_of};
+use crate::layout::Layout;
 use crate::pointer_offset::PointerOffset;
 use crate::shm_allocator::{
     MAX_MEMORY_SIZE, SharedMemorySetupHint, ShmAllocationError, ShmAllocator, ShmAllocatorConfig,
@@ -22,22 +26,19 @@ const MAX_NUMBER_OF_BUCKETS: usize = (1 << 32) - 1;
 
 /// The size of a bucket for that layout: at least one byte, rounded up to the alignment; `None` from 2^64 on.
 fn bucket_size(layout: Layout) -> Option<usize>
-    ensures { let size = bucket_size_of layout.size layout.alignment in
+    ensures value { let size = bucket_size_of layout.size layout.alignment in
         SomeIff result (size < 2 ^ 64) size }
 {
-    checked_next_multiple_of(layout.size().max(1), layout.align())
+    layout
+        .size()
+        .max(1)
+        .checked_next_multiple_of(layout.align())
 }
 
-/// The first bucket that isn't marked as used.
-fn first_free(used: &[bool]) -> Option<usize>
-    ensures { result ≡ position not used.now }
-{
-    used.iter().position(|mark| !*mark)
-}
-
-/// The layout that each bucket of a pool holds.
+/// What a pool is made from: the layout that each bucket holds.
 #[derive(Clone, Copy, Debug)]
 pub struct Config {
+    /// The size and the alignment that each bucket has room for.
     pub bucket_layout: Layout,
 }
 
@@ -58,13 +59,15 @@ impl ShmAllocatorConfig for Config {}
 /// alignment; the bytes that are left at the memory's end are in no bucket.
 #[derive(Debug, Drop)]
 pub struct PoolAllocator {
+    /// The size of each bucket in bytes: at least 1, and a multiple of the alignment. All buckets have at most 2^56
+    /// bytes.
     bucket_size: usize,
+    /// The alignment of each bucket's first byte, a power of two.
     alignment: usize,
-    number_of_buckets: u32,
+    /// The greatest alignment that the memory gives.
     memory_alignment: usize,
-    // One mark for each bucket, true where it is used; none before `init` has answered Ok.
-    used: Option<Vec<bool>>,
-    number_of_used: u32,
+    /// Which buckets are free; one can be taken once `init` has answered Ok.
+    buckets: FreeBuckets,
 }
 
 impl Model for PoolAllocator {
@@ -90,31 +93,42 @@ impl PoolAllocator {
 
     /// The number of buckets.
     pub fn number_of_buckets(&self) -> u32
-        ensures { result ≡ self.now.buckets.count }
+        ensures value { result ≡ self.now.buckets.count }
     {
-        self.number_of_buckets
+        self.buckets.number_of_buckets()
     }
 
     /// The number of buckets that are handed out and not given back.
     pub fn number_of_used_buckets(&self) -> u32
-        ensures { result ≡ number_of_used self.now }
+        ensures value { result ≡ number_of_used self.now }
     {
-        self.number_of_used
+        self.buckets.number_of_used()
     }
 
-    /// Marks a free bucket as used, and gives the place where it starts.
+    /// The index of the bucket that an offset lies in, from 0.
+    pub fn bucket_of(&self, offset: PointerOffset) -> usize
+        ensures value { result ≡ bucket_of self.now offset }
+    {
+        offset.offset() / self.bucket_size
+    }
+
+    /// The offset of a bucket's first byte, in segment 0.
+    pub fn offset_of_bucket(&self, bucket: usize) -> PointerOffset
+        requires exists { bucket < self.now.buckets.count }
+        ensures value { result ≡ pointer_offset (offset_of_bucket self.now bucket) 0 }
+        ensures bucket_back { bucket_of self.now result ≡ bucket }
+    {
+        PointerOffset::new(bucket * self.bucket_size)
+    }
+
+    /// Takes a free bucket, and gives the offset of its first byte.
     fn take_bucket(&mut self) -> PointerOffset
         requires ready { IsTrue self.old.is_ready }
         requires free { IsFalse (is_full self.old) }
-        ensures { GivesFreeBucket self.old result self.new }
+        ensures given { GivesFreeBucket self.old result self.new }
     {
-        let Some(used) = &mut self.used else {
-            unreachable!();
-        };
-        let bucket = first_free(used).unwrap();
-        used[bucket] = true;
-        self.number_of_used += 1;
-        PointerOffset::new(bucket * self.bucket_size)
+        let bucket = self.buckets.take();
+        self.offset_of_bucket(bucket as usize)
     }
 
     /// The layout of the buckets that the strategy takes next; `None` where their size would be 2^64 or more.
@@ -136,27 +150,24 @@ impl PoolAllocator {
 
     /// The number of buckets that the strategy takes next.
     fn raised_count(&self, strategy: AllocationStrategy) -> usize
-        ensures { let count = self.now.buckets.count in
+        ensures value { let count = self.now.buckets.count in
             result ≡ (if is_full self.now then raised_count strategy count else count) }
     {
-        if self.number_of_used == self.number_of_buckets {
-            raised_count(strategy, self.number_of_buckets)
+        let count = self.buckets.number_of_buckets();
+        if self.buckets.is_full() {
+            raised_count(strategy, count)
         } else {
-            self.number_of_buckets as usize
+            count as usize
         }
     }
 
     /// Takes back the bucket that starts at the offset.
     pub fn deallocate_bucket(&mut self, offset: PointerOffset)
-        requires { IsUsedBucket self.old offset }
-        ensures { FreesBucket self.old offset self.new }
+        requires used { IsUsedBucket self.old offset }
+        ensures freed { FreesBucket self.old offset self.new }
     {
-        let bucket = offset.offset() / self.bucket_size;
-        let Some(used) = &mut self.used else {
-            unreachable!();
-        };
-        used[bucket] = false;
-        self.number_of_used -= 1;
+        let bucket = self.bucket_of(offset);
+        self.buckets.give_back(bucket as u32);
     }
 }
 
@@ -175,35 +186,43 @@ impl ShmAllocator for PoolAllocator {
 
     ghost initial_setup_hint = { pool_setup_hint };
 
+    ghost IsSound = { IsSoundPool };
+
     ghost properties = { pool_properties };
 
-    ghost IsTaken = { IsInUsedBucket };
+    ghost IsByteUsed = { IsInUsedBucket };
 
-    ghost IsOut = { IsUsedBucket };
+    ghost IsAllocated = { IsUsedBucket };
 
     ghost refusal = { pool_refusal };
 
     ghost resize_hint = { pool_resize_hint };
 
-    ghost readied = { λ pool. record pool { is_ready = true } };
+    ghost after_init = { λ pool. record pool { is_ready = true } };
 
-    ghost Allocates = { λ old _ place new. GivesFreeBucket old place new };
+    ghost Allocates = { λ old _ pointer new. GivesFreeBucket old pointer new };
 
-    ghost IsSkipped = { λ _ _ _. ⊥ };
+    ghost IsPadding = { λ _ _ _. ⊥ };
 
     ghost Deallocates = { FreesBucket };
 
     ghost new_allocator = { λ alignment size config. new_pool-IsNew alignment size config.bucket_layout };
 
-    ghost readying = { readied_pool-IsReadied };
+    ghost initialization = { initialized_pool-IsInitialized };
 
     ghost allocation = { GivesFreeBucket-IsAllocation };
 
     ghost deallocation = { FreesBucket-IsDeallocation };
 
-    ghost out_is_taken = { λ _ _ out. out.is_used };
+    ghost allocated_is_used = { λ _ _ out. out.is_used };
+
+    ghost used_below_total = { pool_used_below_total };
 
     ghost served = { pool_served };
+
+    ghost aligned = { pool_aligned };
+
+    ghost fits_limit = { λ size config. pool_fits_limit size config.bucket_layout };
 
     ghost hint_of_one_byte = { refl };
 
@@ -223,7 +242,7 @@ impl ShmAllocator for PoolAllocator {
         max_number_of_chunks: usize,
     ) -> Result<SharedMemorySetupHint<Config>, SizeOutOfRange> {
         let alignment = max_chunk_layout.align();
-        let padded = checked_next_multiple_of(max_chunk_layout.size(), alignment);
+        let padded = max_chunk_layout.size().checked_next_multiple_of(alignment);
         let size = padded.ok_or(SizeOutOfRange)?;
         let payload_size = size
             .checked_mul(max_number_of_chunks)
@@ -258,10 +277,8 @@ impl ShmAllocator for PoolAllocator {
         PoolAllocator {
             bucket_size,
             alignment: config.bucket_layout.align(),
-            number_of_buckets: (memory_size / bucket_size) as u32,
             memory_alignment: max_supported_alignment_by_memory,
-            used: None,
-            number_of_used: 0,
+            buckets: FreeBuckets::new((memory_size / bucket_size) as u32),
         }
     }
 
@@ -269,12 +286,14 @@ impl ShmAllocator for PoolAllocator {
         if self.memory_alignment < self.alignment {
             return Err(ShmAllocatorInitError::MaxSupportedMemoryAlignmentInsufficient);
         }
-        let used = vec![in alloc; false; self.number_of_buckets as usize];
-        self.used = Some(used.map_err(|_| ShmAllocatorInitError::AllocationFailed)?);
-        Ok(())
+        self.buckets
+            .reserve(alloc)
+            .map_err(|_| ShmAllocatorInitError::AllocationFailed)
     }
 
-    fn unique_id() -> u8 {
+    fn unique_id() -> u8
+        ensures value { result ≡ 0 }
+    {
         0
     }
 
@@ -297,7 +316,7 @@ impl ShmAllocator for PoolAllocator {
         if self.bucket_size < layout.size() {
             return Err(ShmAllocationError::SizeTooLarge);
         }
-        if self.number_of_used == self.number_of_buckets {
+        if self.buckets.is_full() {
             return Err(ShmAllocationError::OutOfMemory);
         }
         Ok(self.take_bucket())

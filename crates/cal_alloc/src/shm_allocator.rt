@@ -1,11 +1,14 @@
-//! An allocator hands out chunks of a segment's memory by their offsets from its start, and keeps nothing in that memory.
-//! The layer above may rely on this: what is given out and not given back doesn't overlap, a refusal has its cause and
-//! changes nothing, giving a chunk back frees at most that chunk's own bytes, and memory that is set up as `resize_hint`
-//! proposes serves the layout that was asked for.
+//! An allocator hands out chunks of a segment's memory by their offsets from its start, and keeps nothing in that
+//! memory. The layer above may rely on this: what is given out and not given back doesn't overlap, a refusal has its
+//! cause and changes nothing, giving a chunk back frees at most that chunk's own bytes, and memory that is set up as
+//! `resize_hint` proposes serves the layout that was asked for.
+//!
+//! Ported from `shm_allocator/mod.rs` of iceoryx2-cal 0.9.3.
 
-ghost use Rattle.std.specs.Prelude.{◌≡◌, ◌≢◌, ◌<◌, ◌≤◌, ℕ, true, Bool, Option, Some, None, IsTrue, IsFalse, OnOk, OnErr, IfOk, IsErrOf, IsSomeAnd, ◌↔◌};
+ghost use Rattle.std.specs.Prelude.{◌≡◌, ◌≢◌, ◌<◌, ◌≤◌, ◌%◌, ◌^◌, ℕ, true, Bool, Option, Some, None, IsTrue, IsFalse, OnOk, OnErr, IfOk, IsErrOf, IsSomeAnd, ◌↔◌};
+ghost use Rattle.std.specs.Int.{is_power_of_two};
 ghost use Rattle.std.specs.Result.{result_ok, result_err};
-ghost use Rattle.cal_alloc.specs.Chunks.{Properties, chunk_size, IsNew, IsReadied, IsAllocation, IsDeallocation};
+ghost use Rattle.cal_alloc.specs.Chunks.{Properties, chunk_size, IsNew, IsInitialized, IsAllocation, IsDeallocation};
 ghost use Rattle.cal_alloc.specs.PointerOffset.{offset_of};
 ghost use Rattle.cal_alloc.specs.SizeAndAlignment.{SizeAndAlignment};
 ghost use Rattle.cal_alloc.specs.declared.allocation_strategy.AllocationStrategy.{AllocationStrategy};
@@ -58,20 +61,40 @@ pub struct SizeOutOfRange;
 /// What an allocator is made from beside its memory.
 pub trait ShmAllocatorConfig: Copy + Default + Debug {}
 
-/// A proposal for a segment of memory: its payload size in bytes, and the configuration of the allocator that is made for
-/// that much memory.
+/// A proposal for a segment of memory: its payload size in bytes, and the configuration of the allocator that is made
+/// for that much memory.
 #[derive(Drop)]
 pub struct SharedMemorySetupHint<C: ShmAllocatorConfig> {
+    /// The memory's size in bytes, at most 2^56.
     pub payload_size: usize,
+    /// What the allocator for that memory is made from.
     pub config: C,
 }
 
-/// Hands out chunks of memory by the offset of their first byte; offsets begin at 0.
+/// Hands out chunks of memory by the offset of their first byte; offsets begin at 0. An implementation defines these
+/// ghosts:
+///
+/// - of its kind: `unique_id`; `growth_raises_alignment`; `fits`, the memory sizes and configurations that there can be
+/// an allocator for; `management_size`, the number of chunks that it keeps account of; `new_uninit`, the new allocator;
+/// `initial_setup_hint`, the memory that it proposes for so many chunks of a layout, None where none can be so large;
+/// - of an allocator: `IsSound`, what every allocator keeps; `properties`, what it has beside its chunks; `IsByteUsed`;
+///   `IsAllocated`, at which pointers a chunk is out; `refusal`, why it refuses a layout, None where it serves it;
+///   `resize_hint`, the memory that it proposes in its own place;
+/// - of what calls do to it: `after_init`; `Allocates`, a chunk of a layout was given out at a pointer; `IsPadding`,
+/// the bytes before that pointer that are skipped; `Deallocates`, the chunk at a pointer was given back.
+///
+/// It proves these laws:
+///
+/// - `new_allocator`, `initialization`, `allocation`, `deallocation`: what each of these changes does to the bytes;
+/// - `allocated_is_used`, `used_below_total`: the bytes of a chunk that is out, and where used bytes lie;
+/// - `served`, `aligned`: a chunk that is given out is as large and as aligned as was asked for;
+/// - `fits_limit`, `hint_of_one_byte`, `refused_empty`: of memory sizes, hints and refusals.
+///
+/// From these laws it follows, of every allocator, that chunks which are out don't overlap:
+/// `chunks_that_are_out_are_apart`.
 pub trait ShmAllocator: Debug + Drop {
     type Configuration: ShmAllocatorConfig;
 
-    // The kind of allocator: the memory that it can be made for, its chunks there, the new allocator, and the memory that it
-    // proposes for chunks of a layout.
     ghost unique_id: { ℕ };
 
     ghost growth_raises_alignment: { Bool };
@@ -84,26 +107,24 @@ pub trait ShmAllocator: Debug + Drop {
 
     ghost initial_setup_hint: { SizeAndAlignment → ℕ → Option (SharedMemorySetupHint Self.Configuration) };
 
-    // An allocator: what it has beside its chunks, which bytes are taken, where a chunk is out, why it refuses a layout (None
-    // where it serves it), and the memory that it proposes in its own place.
+    ghost IsSound: { Self → Type 0 };
+
     ghost properties: { Self → Properties };
 
-    ghost IsTaken: { Self → ℕ → Type 0 };
+    ghost IsByteUsed: { Self → ℕ → Type 0 };
 
-    ghost IsOut: { Self → ℕ → Type 0 };
+    ghost IsAllocated: { Self → ℕ → Type 0 };
 
     ghost refusal: { Self → SizeAndAlignment → Option ShmAllocationError };
 
     ghost resize_hint: { Self → SizeAndAlignment → AllocationStrategy →
         Option (SharedMemorySetupHint Self.Configuration) };
 
-    // What calls do to it: after `init` has answered Ok; after a chunk of a layout was given out at a place, and the bytes
-    // that are skipped before that place; after the chunk at a place was given back.
-    ghost readied: { Self → Self };
+    ghost after_init: { Self → Self };
 
     ghost Allocates: { Self → SizeAndAlignment → ℕ → Self → Type 0 };
 
-    ghost IsSkipped: { Self → ℕ → ℕ → Type 0 };
+    ghost IsPadding: { Self → ℕ → ℕ → Type 0 };
 
     ghost Deallocates: { Self → ℕ → Self → Type 0 };
 
@@ -117,16 +138,17 @@ pub trait ShmAllocator: Debug + Drop {
         ensures value { result_ok result ≡ resize_hint self.now layout strategy }
         ensures fits { IfOk result (λ hint. IsTrue (fits hint.payload_size hint.config)) }
 
-        // A new allocator that is made by the hint, for memory of any alignment, serves the layout; but a static strategy
-        // proposes what is there, an empty chunk may be refused everywhere, and not each allocator can raise its alignment.
+        // A new allocator that is made by the hint, for memory of any alignment, serves the layout; but a static
+        // strategy proposes what is there, an empty chunk may be refused everywhere, and not each allocator can raise
+        // its alignment.
         ensures serves { strategy ≢ AllocationStrategy.Static →
             refusal self.now layout ≢ Some ShmAllocationError.SizeIsZero →
             (IsFalse growth_raises_alignment → layout.alignment ≤ (properties self.now).max_alignment) →
             IfOk result (λ hint. (alignment : ℕ) →
-            refusal (readied (new_uninit alignment hint.payload_size hint.config)) layout ≡ None) };
+            refusal (after_init (new_uninit alignment hint.payload_size hint.config)) layout ≡ None) };
 
-    /// The memory to set up for that many chunks of that layout. `SizeOutOfRange` where no memory can be so large, or no
-    /// allocator can have so many chunks.
+    /// The memory to set up for that many chunks of that layout. `SizeOutOfRange` where no memory can be so large, or
+    /// no allocator can have so many chunks.
     fn initial_setup_hint(
         max_chunk_layout: Layout,
         max_number_of_chunks: usize,
@@ -136,83 +158,100 @@ pub trait ShmAllocator: Debug + Drop {
 
     /// Whether an allocator can be made for that many bytes of memory.
     fn fits(memory_size: usize, config: &Self::Configuration) -> bool
-        ensures { result ≡ fits memory_size config.now };
+        ensures value { result ≡ fits memory_size config.now };
 
     /// The number of chunks that `init` takes memory for.
     fn management_size(memory_size: usize, config: &Self::Configuration) -> usize
-        requires { IsTrue (fits memory_size config.now) }
-        ensures { result ≡ management_size memory_size config.now };
+        requires fits { IsTrue (fits memory_size config.now) }
+        ensures value { result ≡ management_size memory_size config.now };
 
-    /// An allocator for that many bytes of memory, of which nothing is handed out. It serves once `init` has answered Ok.
+    /// An allocator for that many bytes of memory, of which nothing is handed out. It serves once `init` has answered
+    /// Ok.
     fn new_uninit(
         max_supported_alignment_by_memory: usize,
         memory_size: usize,
         config: &Self::Configuration,
     ) -> Self
-        requires { IsTrue (fits memory_size config.now) }
-        ensures { result ≡ new_uninit max_supported_alignment_by_memory memory_size config.now };
+        requires fits { IsTrue (fits memory_size config.now) }
+        ensures value { result ≡ new_uninit max_supported_alignment_by_memory memory_size config.now };
 
-    /// Takes the memory for what the allocator keeps of its chunks; to be called until it has answered Ok once.
+    /// Takes the memory for what the allocator keeps of its chunks; to be called until it has answered Ok once. After
+    /// an error the allocator is as before.
     fn init(&mut self, alloc: Global) -> Result<(), ShmAllocatorInitError>
-        requires { IsFalse (properties self.old).is_ready }
+        requires once { IsFalse (properties self.old).is_ready }
         ensures insufficient { IsErrOf result ShmAllocatorInitError.MaxSupportedMemoryAlignmentInsufficient ↔
             ((properties self.old).memory_alignment < (properties self.old).max_alignment) }
-        ensures ok { OnOk result (self.new ≡ readied self.old) }
+        ensures ok { OnOk result (self.new ≡ after_init self.old) }
         ensures err { OnErr result (self.new ≡ self.old) };
 
     /// A number that no other kind of allocator has.
     fn unique_id() -> u8
-        ensures { result ≡ unique_id };
+        ensures value { result ≡ unique_id };
 
     /// Whether the memory that `resize_hint` proposes can have a greater alignment than this.
     fn growth_raises_alignment() -> bool
-        ensures { result ≡ growth_raises_alignment };
+        ensures value { result ≡ growth_raises_alignment };
 
-    /// The greatest alignment that a chunk can have.
+    /// The greatest alignment that a chunk can have, in bytes. That every allocator is sound is told here too.
     fn max_alignment(&self) -> usize
-        ensures { result ≡ (properties self.now).max_alignment };
+        ensures value { result ≡ (properties self.now).max_alignment }
+        ensures sound { IsSound self.now };
 
     /// The offset of the first byte that can be handed out.
     fn relative_start_address(&self) -> usize
-        ensures { result ≡ 0 };
+        ensures value { result ≡ 0 };
 
-    /// Hands out a chunk of that layout, and gives the offset of its first byte, in segment 0.
+    /// Hands out a chunk of that layout, and gives the offset of its first byte, in segment 0. After an error the
+    /// allocator is as before.
     fn allocate(&mut self, layout: Layout) -> Result<PointerOffset, ShmAllocationError>
-        requires { IsTrue (properties self.old).is_ready }
+        requires ready { IsTrue (properties self.old).is_ready }
         ensures refused { result_err result ≡ refusal self.old layout }
-        ensures given { IfOk result (λ place. Allocates self.old layout place self.new) }
+        ensures given { IfOk result (λ pointer. Allocates self.old layout pointer self.new) }
         ensures err { OnErr result (self.new ≡ self.old) };
 
     /// Takes back the chunk at that offset, which was handed out and not taken back yet.
     fn deallocate(&mut self, distance: PointerOffset, layout: Layout)
-        requires { IsOut self.old distance }
-        ensures { Deallocates self.old distance self.new };
+        requires allocated { IsAllocated self.old distance }
+        ensures freed { Deallocates self.old distance self.new };
 
     ghost new_allocator: { (alignment size : ℕ) (config : Self.Configuration) →
-        IsNew (properties (new_uninit alignment size config)) (IsTaken (new_uninit alignment size config))
+        IsNew (properties (new_uninit alignment size config)) (IsByteUsed (new_uninit alignment size config))
         alignment size };
 
-    ghost readying: { (old : Self) →
-        IsReadied (properties old) (properties (readied old)) (IsTaken old) (IsTaken (readied old)) };
+    ghost initialization: { (old : Self) →
+        IsInitialized (properties old) (properties (after_init old)) (IsByteUsed old) (IsByteUsed (after_init old)) };
 
-    ghost allocation: { (old : Self) (layout : SizeAndAlignment) (place : ℕ) (new : Self) →
-        Allocates old layout place new →
-        IsAllocation (properties old) (properties new) (IsTaken old) (IsTaken new) (IsOut old) (IsOut new)
-        (IsSkipped old place) layout place };
+    ghost allocation: { (old : Self) (layout : SizeAndAlignment) (pointer : ℕ) (new : Self) →
+        Allocates old layout pointer new →
+        IsAllocation (properties old) (properties new) (IsByteUsed old) (IsByteUsed new) (IsAllocated old) (IsAllocated new)
+        (IsPadding old pointer) layout pointer };
 
-    ghost deallocation: { (old : Self) (place : ℕ) (new : Self) → Deallocates old place new →
-        IsDeallocation (properties old) (properties new) (IsTaken old) (IsTaken new) (IsOut old) (IsOut new)
-        place };
+    ghost deallocation: { (old : Self) (pointer : ℕ) (new : Self) → Deallocates old pointer new →
+        IsDeallocation (properties old) (properties new) (IsByteUsed old) (IsByteUsed new) (IsAllocated old) (IsAllocated new)
+        pointer };
 
-    // The first byte of a chunk that is out is taken.
-    ghost out_is_taken: { (old : Self) (place : ℕ) → IsOut old place → IsTaken old (offset_of place) };
+    // The first byte of a chunk that is out is used.
+    ghost allocated_is_used: { (old : Self) (pointer : ℕ) → IsAllocated old pointer →
+        IsByteUsed old (offset_of pointer) };
+
+    // Each used byte is one of the allocator's.
+    ghost used_below_total: { (old : Self) (byte : ℕ) → IsSound old → IsByteUsed old byte → byte < (properties old).total };
 
     // A chunk that is given out for a layout is large enough.
     ghost served: { (old : Self) (layout : SizeAndAlignment) →
         refusal old layout ≡ None → layout.size ≤ chunk_size (properties old) layout };
 
+    // The offset of a chunk that is given out for a layout is a multiple of the layout's alignment.
+    ghost aligned: { (old : Self) (layout : SizeAndAlignment) (pointer : ℕ) (new : Self) →
+        refusal old layout ≡ None → IsTrue (is_power_of_two layout.alignment) → Allocates old layout pointer new →
+        offset_of pointer % layout.alignment ≡ 0 };
+
+    // No allocator is for more than 2 ^ 56 bytes.
+    ghost fits_limit: { (size : ℕ) (config : Self.Configuration) → IsTrue (fits size config) → size ≤ 2 ^ 56 };
+
     // The memory for one chunk of one byte is one byte.
-    ghost hint_of_one_byte: { IsSomeAnd (initial_setup_hint (record { size = 1; alignment = 1 }) 1) (λ hint. hint.payload_size ≡ 1) };
+    ghost hint_of_one_byte: { IsSomeAnd (initial_setup_hint (record { size = 1; alignment = 1 }) 1)
+        (λ hint. hint.payload_size ≡ 1) };
 
     // Only an empty chunk is refused for its size.
     ghost refused_empty: { (old : Self) (layout : SizeAndAlignment) →

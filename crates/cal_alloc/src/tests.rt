@@ -1,6 +1,7 @@
 ghost use Rattle.std.specs.Prelude.{◌≡◌, ◌≢◌, ◌≤◌, ℕ, Some, IsTrue, IsFalse, IfSome, IfOk};
 ghost use Rattle.cal_alloc.specs.Chunks.{IsInChunk, chunk_size};
 
+use crate::laws::chunks_that_are_out_are_apart;
 use crate::{
     AllocationStrategy, BumpAllocator, Layout, PointerOffset, PoolAllocator, SegmentId,
     ShmAllocationError, ShmAllocator, ShmAllocatorInitError, SizeOutOfRange, bump_allocator,
@@ -9,24 +10,25 @@ use crate::{
 use std::alloc::Global;
 use std::test::Fail;
 
-/// The places of two chunks that are handed out one after the other. The clause is proved from the laws of the trait alone.
+/// The pointers of two chunks that are handed out one after the other. The clause is proved from the laws of the trait
+/// alone.
 fn two_chunks<A: ShmAllocator>(
     allocator: &mut A,
     layout: Layout,
 ) -> Option<(PointerOffset, PointerOffset)>
     requires { IsTrue (A.properties allocator.old).is_ready }
-    ensures apart { IfSome result (λ places. (byte : ℕ) →
-        IsInChunk places.0 (chunk_size (A.properties allocator.old) layout) byte →
-        ¬ IsInChunk places.1 (chunk_size (A.properties allocator.old) layout) byte) }
+    ensures apart { IfSome result (λ pointers. (byte : ℕ) →
+        IsInChunk pointers.0 (chunk_size (A.properties allocator.old) layout) byte →
+        ¬ IsInChunk pointers.1 (chunk_size (A.properties allocator.old) layout) byte) }
 {
     let first = allocator.allocate(layout).ok()?;
     let second = allocator.allocate(layout).ok()?;
     Some((first, second))
 }
 
-/// The place that a layout gets in memory that is set up as this allocator proposes. It gets one in any case: that the
-/// `unwrap` may be called is proved from the clauses of the trait alone.
-fn place_after_growth<A: ShmAllocator>(
+/// The pointer that a layout gets in memory that is set up as this allocator proposes. It gets one in any case: that
+/// the `unwrap` may be called is proved from the clauses of the trait alone.
+fn offset_after_growth<A: ShmAllocator>(
     alloc: Global,
     allocator: &A,
     layout: Layout,
@@ -34,7 +36,8 @@ fn place_after_growth<A: ShmAllocator>(
 ) -> Result<PointerOffset, Fail>
     requires growing { strategy ≢ AllocationStrategy.Static }
     requires not_empty { A.refusal allocator.now layout ≢ Some ShmAllocationError.SizeIsZero }
-    requires aligned { IsFalse A.growth_raises_alignment → layout.alignment ≤ (A.properties allocator.now).max_alignment }
+    requires aligned { IsFalse A.growth_raises_alignment →
+        layout.alignment ≤ (A.properties allocator.now).max_alignment }
 {
     let hint = allocator.resize_hint(layout, strategy)?;
     let mut next = A::new_uninit(4096, hint.payload_size, &hint.config);
@@ -42,13 +45,13 @@ fn place_after_growth<A: ShmAllocator>(
     Ok(next.allocate(layout).unwrap())
 }
 
-/// The place of a second chunk, where the first was given back before it. That the first is out, and that the allocator
-/// still serves then, is proved from the laws of the trait alone.
-fn place_after_return<A: ShmAllocator>(allocator: &mut A, layout: Layout) -> Option<PointerOffset>
+/// The pointer of a second chunk, where the first was given back before it. That the first is out, and that the
+/// allocator still serves then, is proved from the laws of the trait alone.
+fn offset_after_return<A: ShmAllocator>(allocator: &mut A, layout: Layout) -> Option<PointerOffset>
     requires { IsTrue (A.properties allocator.old).is_ready }
 {
-    let place = allocator.allocate(layout).ok()?;
-    allocator.deallocate(place, layout);
+    let pointer = allocator.allocate(layout).ok()?;
+    allocator.deallocate(pointer, layout);
     allocator.allocate(layout).ok()
 }
 
@@ -82,14 +85,14 @@ fn bump(alloc: Global) -> Result<BumpAllocator, Fail>
 
 #[test]
 fn offset_and_segment_are_one_number(rt: HostRuntime) {
-    let place = PointerOffset::from_offset_and_segment_id(100, SegmentId::new(5));
-    assert_eq!(rt; place.as_value(), 25605);
+    let pointer = PointerOffset::from_offset_and_segment_id(100, SegmentId::new(5));
+    assert_eq!(rt; pointer.as_value(), 25605);
 }
 
 #[test]
-fn places_and_causes_are_printed(rt: HostRuntime) -> Result<(), Fail> {
-    let place = PointerOffset::from_offset_and_segment_id(100, SegmentId::new(5));
-    let text = format!(in rt.alloc(); "{place:?}")?;
+fn offsets_and_causes_are_printed(rt: HostRuntime) -> Result<(), Fail> {
+    let pointer = PointerOffset::from_offset_and_segment_id(100, SegmentId::new(5));
+    let text = format!(in rt.alloc(); "{pointer:?}")?;
     assert_eq!(rt;
         text.as_str(),
         "PointerOffset { offset: 100, segment_id: SegmentId(5) }"
@@ -262,15 +265,15 @@ fn hints_end_at_their_limits(rt: HostRuntime) -> Result<(), Fail> {
 }
 
 #[test]
-fn a_pool_alone_gives_a_place_again(rt: HostRuntime) -> Result<(), Fail> {
+fn a_pool_alone_gives_an_offset_again(rt: HostRuntime) -> Result<(), Fail> {
     let mut pool = pool(rt.alloc(), 24, layout(24, 8)?)?;
     let mut bump = bump(rt.alloc())?;
     assert_eq!(rt;
-        place_after_return(&mut pool, layout(24, 8)?),
+        offset_after_return(&mut pool, layout(24, 8)?),
         Some(PointerOffset::new(0))
     );
     assert_eq!(rt;
-        place_after_return(&mut bump, layout(24, 8)?),
+        offset_after_return(&mut bump, layout(24, 8)?),
         Some(PointerOffset::new(24))
     );
     Ok(())
@@ -283,9 +286,115 @@ fn laws_hold_of_both_allocators(rt: HostRuntime) -> Result<(), Fail> {
     assert!(rt; two_chunks(&mut pool, layout(24, 8)?).is_some());
     assert!(rt; two_chunks(&mut bump, layout(24, 8)?).is_some());
     let asked = layout(100, 4)?;
-    let place = place_after_growth(rt.alloc(), &pool, asked, AllocationStrategy::BestFit)?;
-    assert_eq!(rt; place, PointerOffset::new(0));
-    let place = place_after_growth(rt.alloc(), &bump, asked, AllocationStrategy::PowerOfTwo)?;
-    assert_eq!(rt; place, PointerOffset::new(0));
+    let pointer = offset_after_growth(rt.alloc(), &pool, asked, AllocationStrategy::BestFit)?;
+    assert_eq!(rt; pointer, PointerOffset::new(0));
+    let pointer = offset_after_growth(rt.alloc(), &bump, asked, AllocationStrategy::PowerOfTwo)?;
+    assert_eq!(rt; pointer, PointerOffset::new(0));
+    Ok(())
+}
+
+#[test]
+fn kinds_and_defaults_are_as_named(rt: HostRuntime) -> Result<(), Fail> {
+    assert_eq!(rt; PoolAllocator::unique_id(), 0);
+    assert_eq!(rt; BumpAllocator::unique_id(), 1);
+    assert!(rt; PoolAllocator::growth_raises_alignment());
+    assert!(rt; !BumpAllocator::growth_raises_alignment());
+    assert_eq!(rt; AllocationStrategy::default(), AllocationStrategy::Static);
+    let config = pool_allocator::Config::default();
+    assert_eq!(rt; config.bucket_layout, layout(1024, 8)?);
+    assert!(rt; PoolAllocator::fits(5000, &config));
+    assert_eq!(rt; PoolAllocator::management_size(5000, &config), 4);
+    let config = bump_allocator::Config::default();
+    assert!(rt; BumpAllocator::fits(5000, &config));
+    assert_eq!(rt; BumpAllocator::management_size(5000, &config), 0);
+    chunks_that_are_out_are_apart::<PoolAllocator>();
+    chunks_that_are_out_are_apart::<BumpAllocator>();
+    Ok(())
+}
+
+#[test]
+fn allocators_tell_of_their_memory(rt: HostRuntime) -> Result<(), Fail> {
+    let mut pool = pool(rt.alloc(), 100, layout(20, 8)?)?;
+    assert_eq!(rt; pool.max_alignment(), 8);
+    assert_eq!(rt; pool.relative_start_address(), 0);
+    assert_eq!(rt; pool.bucket_size(), 24);
+    assert_eq!(rt; pool.number_of_buckets(), 4);
+    assert_eq!(rt; pool.number_of_used_buckets(), 0);
+    assert!(rt; pool.allocate(layout(20, 8)?).is_ok());
+    assert_eq!(rt; pool.number_of_used_buckets(), 1);
+    let bump = bump(rt.alloc())?;
+    assert_eq!(rt; bump.max_alignment(), 8);
+    assert_eq!(rt; bump.relative_start_address(), 0);
+    assert_eq!(rt; bump.total_space(), 64);
+    Ok(())
+}
+
+#[test]
+fn a_segment_is_set_beside_its_offset(rt: HostRuntime) {
+    let mut pointer = PointerOffset::from_offset_and_segment_id(100, SegmentId::new(5));
+    pointer.set_segment_id(SegmentId::new(SegmentId::max_segment_id()));
+    assert_eq!(rt; SegmentId::max_segment_id(), 255);
+    assert_eq!(rt; pointer.segment_id().value(), 255);
+    assert_eq!(rt; pointer.offset(), 100);
+    assert_eq!(rt; pointer, PointerOffset::from_value(25855));
+}
+
+#[test]
+fn a_pool_that_is_not_full_keeps_its_count(rt: HostRuntime) -> Result<(), Fail> {
+    let pool = pool(rt.alloc(), 3072, layout(1024, 8)?)?;
+    for (size, alignment, strategy, bucket_size, bucket_alignment, payload_size) in [
+        (1500, 16, AllocationStrategy::BestFit, 1504, 16, 4512),
+        (1500, 16, AllocationStrategy::PowerOfTwo, 2048, 16, 6144),
+        (1, 2048, AllocationStrategy::BestFit, 2048, 2048, 6144),
+        (1, 2048, AllocationStrategy::PowerOfTwo, 2048, 2048, 6144),
+        (1, 1, AllocationStrategy::BestFit, 1024, 8, 3072),
+        (1, 1, AllocationStrategy::PowerOfTwo, 1024, 8, 3072),
+    ] {
+        let hint = pool.resize_hint(layout(size, alignment)?, strategy)?;
+        assert_eq!(rt;
+            hint.payload_size,
+            payload_size,
+            "{size} at {alignment} under {strategy:?}"
+        );
+        assert_eq!(rt;
+            hint.config.bucket_layout,
+            layout(bucket_size, bucket_alignment)?,
+            "{size} at {alignment} under {strategy:?}"
+        );
+    }
+    Ok(())
+}
+
+#[test]
+fn each_bucket_of_a_pool_is_given_once(rt: HostRuntime) -> Result<(), Fail> {
+    let mut pool = pool(rt.alloc(), 72, layout(24, 8)?)?;
+    assert_eq!(rt; pool.number_of_buckets(), 3);
+    assert_eq!(rt; pool.offset_of_bucket(2), PointerOffset::new(48));
+    let asked = layout(24, 8)?;
+    let first = pool.allocate(asked)?;
+    let second = pool.allocate(asked)?;
+    let third = pool.allocate(asked)?;
+    assert_eq!(rt; pool.bucket_of(first) * 24, first.offset());
+    let buckets = [first, second, third].map(|pointer| pointer.offset() / 24);
+    for bucket in 0..3 {
+        assert!(rt; buckets.contains(&bucket), "{bucket}");
+    }
+    assert_eq!(rt; pool.allocate(asked), Err(ShmAllocationError::OutOfMemory));
+    Ok(())
+}
+
+#[test]
+fn many_buckets_cost_nothing_until_they_are_used(rt: HostRuntime) -> Result<(), Fail> {
+    let config = pool_allocator::Config {
+        bucket_layout: layout(1, 1)?,
+    };
+    let count = (1 << 32) - 1;
+    assert!(rt; PoolAllocator::fits(count, &config));
+    let mut pool = PoolAllocator::new_uninit(4096, count, &config);
+    // Either the words' room is there, or there is an answer for it.
+    match pool.init(rt.alloc()) {
+        Ok(()) => assert!(rt; pool.allocate(layout(1, 1)?).is_ok()),
+        Err(error) => assert_eq!(rt; error, ShmAllocatorInitError::AllocationFailed),
+    }
     Ok(())
 }

@@ -1,22 +1,29 @@
-//! Measures the submission ring: `cal_bench one COUNT` pushes and pops that many values on one thread, and
-//! `cal_bench two COUNT` sends them from one thread to another with overflow. Each prints the nanoseconds that it took.
+//! Measures the rings: `cal_bench one COUNT` pushes and pops that many values of a submission ring on one thread,
+//! `cal_bench two COUNT` sends them from one thread to another with overflow, and `cal_bench completion COUNT` puts
+//! them into a completion ring and gets them out on one thread. `cal_bench pool COUNT`, `queue` and `used` measure the
+//! plain containers: a chunk got and freed, a value pushed and popped, a number put in and taken out. Each prints the
+//! nanoseconds that it took.
 #![tactic(auto)]
 
 mod one_thread;
+mod plain_calls;
 mod two_threads;
 
+use crate::plain_calls::container_of;
 use anyhow::Result;
+use cal_queue::submission_ring::RingRest;
 use std::env;
 use std::rt::Env;
 use std::time::Instant;
 
-const USAGE: &str = "usage: cal_bench one COUNT | cal_bench two COUNT";
+const USAGE: &str = "usage: cal_bench (one | two | completion | pool | queue | used) COUNT";
 
 /// Which measurement, and of how many values.
 #[derive(Clone, Copy)]
 enum Plan {
     OneThread(u64),
     TwoThreads(u64),
+    Completion(u64),
 }
 
 /// What the words of the command line ask for; the count is at least 1.
@@ -29,6 +36,7 @@ fn plan_of(words: &[String]) -> Option<Plan> {
         _ if count == 0 => None,
         "one" => Some(Plan::OneThread(count)),
         "two" => Some(Plan::TwoThreads(count)),
+        "completion" => Some(Plan::Completion(count)),
         _ => None,
     }
 }
@@ -42,6 +50,13 @@ fn words_of<R: Env + AllocGlobal>(rt: &R) -> Result<Vec<String>> {
 
 fn main(rt: HostRuntime) -> Result<()> {
     let words = words_of(&rt)?;
+    if let Some((container, count)) = container_of(words.as_slice()) {
+        let start = Instant::now(&rt)?;
+        let done = container.call(rt.alloc(), count)?;
+        let nanoseconds = start.elapsed(&rt)?.as_nanos();
+        println!(rt; "{count} calls in {nanoseconds} ns: {done} done")?;
+        return Ok(());
+    }
     let Some(plan) = plan_of(words.as_slice()) else {
         println!(rt; "{USAGE}")?;
         return Ok(());
@@ -50,6 +65,16 @@ fn main(rt: HostRuntime) -> Result<()> {
     let (count, rest) = match plan {
         Plan::OneThread(count) => (count, one_thread::push_and_pop(&rt, rt.alloc(), count)?),
         Plan::TwoThreads(count) => (count, two_threads::send_and_take(&rt, rt.alloc(), count)?),
+        Plan::Completion(count) => {
+            let all = one_thread::put_and_get(rt.alloc(), count)?;
+            let rest = RingRest {
+                sent: all.put,
+                received: all.got,
+                returned: 0,
+                left: all.left,
+            };
+            (count, rest)
+        }
     };
     let nanoseconds = start.elapsed(&rt)?.as_nanos();
     println!(rt;

@@ -7,10 +7,12 @@ use std::alloc::{AllocError, Global};
 use std::sync::Wait;
 use std::thread::{Threads, join};
 
+// How many values the ring holds.
 const BUFFER: usize = 1024;
 
+/// Sends each number below `count`.
 fn send_all(mut send: SendSeat, count: u64) -> SendSeat
-    ensures { SameSendEnd send result }
+    ensures same_end { SameSendEnd send result }
 {
     for value in 0..count {
         let _ = send.push(value, true);
@@ -20,7 +22,7 @@ fn send_all(mut send: SendSeat, count: u64) -> SendSeat
 
 /// Takes values until the last one, which no other overflows.
 fn take_to_last<R: Wait>(rt: &R, mut take: TakeSeat, last: u64) -> TakeSeat
-    ensures { SameTakeEnd take result }
+    ensures same_end { SameTakeEnd take result }
 {
     for _ in rt.forever() {
         if take.pop(rt) == Some(last) {
@@ -36,7 +38,7 @@ pub fn send_and_take<R: Threads + Wait + Sync>(
     alloc: Global,
     count: u64,
 ) -> Result<RingRest, AllocError>
-    ensures { IfOk result (λ all. all.sent ≡ all.received + all.returned + all.left) }
+    ensures adds_up { IfOk result (λ all. all.sent ≡ all.received + all.returned + all.left) }
 {
     let (send, take) = SubmissionRing::new(alloc, BUFFER)?;
     let last = count.saturating_sub(1);

@@ -1,4 +1,4 @@
-pub mod Paths
-pub mod FilePaths
-pub mod TypeHashes
-pub mod NamePaths
+pub mod PathLemmas
+pub mod FilePathLemmas
+pub mod TypeHashLemmas
+pub mod NamePathLemmas

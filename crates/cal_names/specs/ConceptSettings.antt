@@ -41,7 +41,7 @@ file_name_for settings name = settings.prefix ++ type_part settings.type_name ++
 abbrev pub file_path_for : ConceptSettings → List ℕ → List ℕ
 file_path_for settings name = file_path_of settings.path_hint (file_name_for settings name)
 
--- the bytes behind this front
+-- the bytes after this front
 abbrev pub without_prefix : List ℕ → List ℕ → Option (List ℕ)
 without_prefix front bytes =
     if bytes_eq (take (length front) bytes) front then Some (drop (length front) bytes) else None

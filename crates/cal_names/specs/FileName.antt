@@ -42,18 +42,28 @@ false_from_no false P decides refuted = refl
 pub is_file_name-decides : (name : List ℕ) → Decides (is_file_name name) (IsFileName name)
 is_file_name-decides name =
     Decides-like (is_file_name name)
-    (λ rule. record { not_empty = rule.0; fits = rule.1.0; bytes = rule.1.1.0; not_dot = rule.1.1.1.0; not_two_dots = rule.1.1.1.1 })
+    (λ rule. record {
+      not_empty = rule.0;
+      fits = rule.1.0;
+      bytes = rule.1.1.0;
+      not_dot = rule.1.1.1.0;
+      not_two_dots =
+          rule.1.1.1.1;
+    })
     (λ rule. (rule.not_empty, (rule.fits, (rule.bytes, (rule.not_dot, rule.not_two_dots)))))
     (Decides-and _ _ (Decides-ltb 0 (length name))
     (Decides-and _ _ (Decides-le_255 (length name))
     (Decides-and _ _ (AllPass-from_list_all is_file_name_byte name, list_all-from_AllPass is_file_name_byte name)
-    (Decides-and _ _ (Decides-not _ (bytes_eq-Decides name (codes "."))) (Decides-not _ (bytes_eq-Decides name (codes "..")))))))
+    (Decides-and _ _ (Decides-not _ (bytes_eq-Decides name (codes ".")))
+    (Decides-not _ (bytes_eq-Decides name (codes "..")))))))
 
 pub as_file_name_yes : (bytes : List ℕ) → IsFileName bytes → as_file_name bytes ≡ Some bytes
 as_file_name_yes bytes rule = ap (λ t. if t then Some bytes else None) ((is_file_name-decides bytes).1 rule)
 
 pub as_file_name_no : (bytes : List ℕ) → (IsFileName bytes → ⊥) → as_file_name bytes ≡ None
-as_file_name_no bytes refuted = ap (λ t. if t then Some bytes else None) (false_from_no (is_file_name bytes) (IsFileName bytes) (is_file_name-decides bytes) refuted)
+as_file_name_no bytes refuted = ap
+    (λ t. if t then Some bytes else None)
+    (false_from_no (is_file_name bytes) (IsFileName bytes) (is_file_name-decides bytes) refuted)
 
 -- more than 255 bytes are none
 pub as_file_name_long : (bytes : List ℕ) → 255 < length bytes → as_file_name bytes ≡ None
@@ -72,7 +82,8 @@ joined-not_two_dots (a ∷ b ∷ []) more rule same = rule.not_two_dots (cc)
 joined-not_two_dots (a ∷ b ∷ c ∷ rest) more rule same = absurd (cc)
 
 -- a file name with more bytes of file names after it is one, where it isn't too long
-pub IsFileName-joined : (name more : List ℕ) → IsFileName name → AllPass is_file_name_byte more → length name + length more ≤ 255 → IsFileName (name ++ more)
+pub IsFileName-joined : (name more : List ℕ) → IsFileName name → AllPass is_file_name_byte more →
+    length name + length more ≤ 255 → IsFileName (name ++ more)
 IsFileName-joined name more rule bytes fits = record {
   not_empty = omega (arith, rule.not_empty, length-append name more);
   fits = omega (arith, length-append name more);
@@ -81,6 +92,7 @@ IsFileName-joined name more rule bytes fits = record {
   not_two_dots = joined-not_two_dots name more rule;
 }
 
-pub as_file_name-joined : (name more : List ℕ) → IsFileName name → AllPass is_file_name_byte more → length name + length more ≤ 255 → as_file_name (name ++ more) ≡ Some (name ++ more)
+pub as_file_name-joined : (name more : List ℕ) → IsFileName name → AllPass is_file_name_byte more →
+    length name + length more ≤ 255 → as_file_name (name ++ more) ≡ Some (name ++ more)
 as_file_name-joined name more rule bytes fits =
     as_file_name_yes (name ++ more) (IsFileName-joined name more rule bytes fits)

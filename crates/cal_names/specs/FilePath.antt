@@ -4,7 +4,7 @@ use Rattle.std.specs.List.{suffix_len}
 use Rattle.cal_names.specs.FileName.{IsFileName}
 use Rattle.cal_names.specs.Path.{slash, IsPath}
 
--- `/`, but nothing behind the empty path and behind `/`
+-- `/`, but nothing after the empty path and after `/`
 abbrev pub separator : List ℕ → List ℕ
 separator [] = []
 separator (byte ∷ []) = if byte == slash then [] else slash ∷ []
@@ -22,7 +22,7 @@ pub record IsFilePath (bytes : List ℕ) : Type 0 where
   pub is_file_name : IsFileName name
   pub joined : bytes ≡ file_path_of path name
 
--- the place behind the last `/`, at which the file name begins
+-- the index after the last `/`, at which the file name begins
 abbrev pub file_name_start : List ℕ → ℕ
 file_name_start bytes = length bytes - suffix_len (λ byte. not (byte == slash)) bytes
 

@@ -23,13 +23,13 @@ abbrev pub are_joined_file_names : List ℕ → Bool
 are_joined_file_names [] = true
 are_joined_file_names (byte ∷ bytes) = list_all is_file_name (slice_split (λ b. b == slash) (byte ∷ bytes))
 
--- the bytes behind a first `/`, if there is one
-abbrev pub behind_first_slash : List ℕ → List ℕ
-behind_first_slash [] = []
-behind_first_slash (byte ∷ bytes) = if byte == slash then bytes else byte ∷ bytes
+-- the bytes after a first `/`, if there is one
+abbrev pub after_first_slash : List ℕ → List ℕ
+after_first_slash [] = []
+after_first_slash (byte ∷ bytes) = if byte == slash then bytes else byte ∷ bytes
 
 abbrev pub is_path : List ℕ → Bool
-is_path path = nat_le (length path) 768 && are_joined_file_names (behind_first_slash path)
+is_path path = nat_le (length path) 768 && are_joined_file_names (after_first_slash path)
 
 -- these bytes, where they are a path
 abbrev pub as_path : List ℕ → Option (List ℕ)

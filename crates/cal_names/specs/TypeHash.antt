@@ -20,7 +20,7 @@ length-sextets zero number = refl
 length-sextets (suc count) number =
     length-append (sextets count (number / 64)) (number % 64 ∷ []) ∙ omega (arith, length-sextets count (number / 64))
 
--- the SHA-1 of the name, as a number of 160 bits with the first byte highest, and two zero bits behind it: a letter
+-- the SHA-1 of the name, as a number of 160 bits with the first byte highest, and two zero bits after it: a letter
 -- for each six bits, from the highest on
 unfoldable pub type_hash_of : List ℕ → List ℕ
 type_hash_of name = map (slice_index hash_letters) (sextets 27 (number_from_digits 256 (sha1 name) * 4))

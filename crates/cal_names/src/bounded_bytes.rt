@@ -1,6 +1,6 @@
 //! Bytes of a bounded number, held in place and copied as a whole: what every name is made of.
-//! Contracts see the list of the bytes. The places behind them hold zeros, so that equal lists are
-//! equal values.
+//! Contracts see the list of the bytes. The bytes after them are zeros, so that equal lists are equal
+//! values.
 ghost use Rattle.std.specs.Prelude.{◌≡◌, ◌+◌, ◌<◌, ◌≤◌, [], ◌∷◌, ◌++◌, length, take, Some, nat_eq, refl};
 ghost use Rattle.std.specs.Ordering.{nat_cmp};
 ghost use Rattle.std.specs.Cmp.{partial_equiv_from_equiv};
@@ -14,7 +14,9 @@ use std::marker::Model;
 /// Up to `LIMIT` bytes.
 #[derive(Clone, Copy)]
 pub(crate) struct BoundedBytes<const LIMIT: usize> {
+    /// How many bytes there are, at most `LIMIT`.
     len: usize,
+    /// The bytes, and zeros from `len` on.
     bytes: [u8; LIMIT],
 }
 
@@ -49,7 +51,7 @@ impl<const LIMIT: usize> BoundedBytes<LIMIT> {
         }
     }
 
-    /// Puts the bytes of `more` behind those that are there.
+    /// Puts the bytes of `more` after those that are there.
     pub(crate) fn append(&mut self, more: &[u8])
         requires { length self.old + length more.now ≤ LIMIT }
         ensures { self.new ≡ self.old ++ more.now }
@@ -120,7 +122,7 @@ impl<const LIMIT: usize> fmt::Debug for BoundedBytes<LIMIT> {
     }
 }
 
-/// The bytes of `value`, with zeros behind them.
+/// The bytes of `value`, with zeros after them.
 fn padded<const LIMIT: usize>(value: &[u8]) -> [u8; LIMIT]
     requires { length value.now ≤ LIMIT }
     ensures length { length result ≡ LIMIT }
@@ -128,8 +130,8 @@ fn padded<const LIMIT: usize>(value: &[u8]) -> [u8; LIMIT]
     ensures zeros { IsZeroFrom (length value.now) result }
 {
     let mut bytes = [0; LIMIT];
-    for (place, byte) in value.iter().enumerate() {
-        bytes[place] = *byte;
+    for (index, byte) in value.iter().enumerate() {
+        bytes[index] = *byte;
     }
     bytes
 }

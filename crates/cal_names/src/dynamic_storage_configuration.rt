@@ -1,5 +1,5 @@
 //! The configuration of a dynamic storage: the hash of the stored type's name stands in the path of
-//! a name.
+//! a name. Ported from `dynamic_storage/dynamic_storage_configuration.rs` of iceoryx2-cal 0.9.3.
 ghost use Rattle.std.specs.Prelude.{◌≡◌, ◌≤◌, ◌↔◌, ℕ, List, Some, length, IsOk, IfOk};
 ghost use Rattle.cal_names.specs.FileName.{IsFileName};
 ghost use Rattle.cal_names.specs.FilePath.{IsFilePath};

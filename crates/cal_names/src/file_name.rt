@@ -11,6 +11,7 @@ const MAX_LEN: usize = 255;
 /// `.` nor `..`. Contracts see the list of its bytes. Equality and order are those of the bytes.
 #[derive(Clone, Copy, Debug, PartialEq, Eq, PartialOrd, Ord)]
 pub struct FileName {
+    /// The bytes, which are a file name.
     bytes: BoundedBytes<MAX_LEN>,
 }
 
@@ -44,8 +45,8 @@ impl FileName {
         }
     }
 
-    /// This file name with more bytes after it, where that is a file name: where the bytes are bytes of file names and all
-    /// are at most 255.
+    /// This file name with more bytes after it, where that is a file name: where the bytes are bytes of file names and
+    /// all are at most 255.
     #[tactic(auto, using(crate::specs::FileName::as_file_name_long))]
     pub fn joined(&self, more: &[u8]) -> Option<Self>
         ensures value { result ≡ as_file_name (self.now ++ more.now) }

@@ -13,6 +13,7 @@ const MAX_LEN: usize = 1024;
 /// 1024 bytes. Contracts see the list of its bytes. Equality and order are those of the bytes.
 #[derive(Clone, Copy, Debug, PartialEq, Eq, PartialOrd, Ord)]
 pub struct FilePath {
+    /// The bytes, which are a path and a file name.
     bytes: BoundedBytes<MAX_LEN>,
 }
 
@@ -38,7 +39,7 @@ impl FilePath {
         let path = Path::new(path_of(value))?;
         let file = FileName::new(file_name_of(value))?;
         let file_path = Self::from_parts(&path, &file);
-        // A path `/` behind which another `/` stands is the one that isn't given back.
+        // A path `/` after which another `/` stands is the one that isn't given back.
         if file_path.as_bytes() == value {
             Some(file_path)
         } else {
@@ -94,7 +95,7 @@ fn separator(path: &[u8]) -> &'static [u8]
     }
 }
 
-/// What stands behind the last `/`.
+/// What stands after the last `/`.
 fn file_name_of(value: &[u8]) -> &[u8]
     ensures { result.now ≡ file_name_part value.now }
 {
@@ -113,7 +114,7 @@ fn path_of(value: &[u8]) -> &[u8]
     }
 }
 
-/// The place behind the last `/`, or 0 where there is none.
+/// The index after the last `/`, or 0 where there is none.
 fn file_name_start(value: &[u8]) -> usize
     ensures within { result ≤ length value.now }
     ensures value { result ≡ file_name_start value.now }

@@ -3,16 +3,16 @@
 
 mod bounded_bytes;
 pub mod dynamic_storage_configuration;
-pub mod file_name;
-pub mod file_path;
+mod file_name;
+mod file_path;
 mod name_paths;
 pub mod named_concept;
-pub mod named_type;
-pub mod path;
-pub mod path_parts;
-pub mod path_too_long;
+mod named_type;
+mod path;
+mod path_parts;
+mod path_too_long;
 pub mod type_hash;
-pub mod type_name;
+mod type_name;
 
 pub use dynamic_storage_configuration::DynamicStorageConfiguration;
 pub use file_name::FileName;

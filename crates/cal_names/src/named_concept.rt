@@ -1,6 +1,8 @@
 //! Named concepts: what has a file name as its name and stands under a path. A configuration makes
 //! the path of a name and extracts the name again, and the registry holds the paths. Everything
 //! that is stored or connected implements these traits.
+//!
+//! Ported from `named_concept.rs` of iceoryx2-cal 0.9.3.
 ghost use Rattle.std.specs.Prelude.{◌≡◌, ◌≤◌, ◌↔◌, ℕ, Bool, not, List, Option, Some, true, length, codes, IsOk, IfOk, IfErr, OnOk, OnErr, IfSome, IsTrue};
 ghost use Rattle.std.specs.List.{list_any, filter, filter_map};
 ghost use Rattle.std.specs.List.Sorted.{IsStrictlySortedBy};

@@ -13,6 +13,7 @@ const MAX_LEN: usize = 768;
 /// those of the bytes.
 #[derive(Clone, Copy, Debug, PartialEq, Eq, PartialOrd, Ord)]
 pub struct Path {
+    /// The bytes, which are a path.
     bytes: BoundedBytes<MAX_LEN>,
 }
 
@@ -31,7 +32,7 @@ impl Model for Path {
 
 impl Path {
     /// The path of these bytes, where they are one.
-    #[tactic(auto, using(crate::proofs::Paths::as_path_yes, crate::proofs::Paths::as_path_no))]
+    #[tactic(auto, using(crate::proofs::PathLemmas::as_path_yes, crate::proofs::PathLemmas::as_path_no))]
     pub fn new(value: &[u8]) -> Option<Self>
         ensures rule { IsSome result ↔ IsPath value.now }
         ensures bytes { IfSome result (λ path. path ≡ value.now) }

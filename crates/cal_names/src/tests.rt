@@ -6,9 +6,7 @@ mod storage_configuration;
 use super::*;
 use base64::engine::general_purpose::STANDARD;
 use sha1::Sha1;
-use std::alloc::{AllocError, Global};
 use std::collections::BTreeSet;
-use std::fmt::Display;
 use std::test::Fail;
 
 fn is_file_name(bytes: &[u8]) -> bool {
@@ -178,76 +176,66 @@ fn the_type_hash_is_the_sha1_in_base64(rt: HostRuntime) -> Result<(), Fail> {
     Ok(())
 }
 
-/// The texts of the values, each with a blank behind it.
-fn printed<T: Display + Drop + Copy>(alloc: Global, values: &[T]) -> Result<String, AllocError> {
-    let mut texts = String::new(alloc);
-    for value in values {
-        texts.push_str(value.to_string(alloc)?.as_str())?;
-        texts.push(' ')?;
-    }
-    Ok(texts)
-}
-
 #[test]
 fn refusals_of_looks_are_printed(rt: HostRuntime) -> Result<(), Fail> {
     use NamedConceptDoesExistError::{
         InsufficientPermissions, InternalError, UnderlyingResourcesBeingSetUp,
         UnderlyingResourcesCorrupted,
     };
-    let texts = printed(
-        rt.alloc(),
-        &[
-            InsufficientPermissions,
+    for (error, text) in [
+        (InsufficientPermissions, "InsufficientPermissions"),
+        (
             UnderlyingResourcesBeingSetUp,
-            UnderlyingResourcesCorrupted,
-            InternalError,
-        ],
-    )?;
-    assert_eq!(rt;
-        texts.as_str(),
-        "NamedConceptDoesExistError::InsufficientPermissions NamedConceptDoesExistError::UnderlyingResourcesBeingSetUp NamedConceptDoesExistError::UnderlyingResourcesCorrupted NamedConceptDoesExistError::InternalError "
-    );
+            "UnderlyingResourcesBeingSetUp",
+        ),
+        (UnderlyingResourcesCorrupted, "UnderlyingResourcesCorrupted"),
+        (InternalError, "InternalError"),
+    ] {
+        let expected = format!(in rt.alloc(); "NamedConceptDoesExistError::{text}")?;
+        assert_eq!(rt; error.to_string(rt.alloc())?.as_str(), expected.as_str());
+    }
     Ok(())
 }
 
 #[test]
 fn refusals_of_removals_are_printed(rt: HostRuntime) -> Result<(), Fail> {
     use NamedConceptRemoveError::{InsufficientPermissions, InternalError, NoMemory};
-    let texts = printed(
-        rt.alloc(),
-        &[InsufficientPermissions, InternalError, NoMemory],
-    )?;
-    assert_eq!(rt;
-        texts.as_str(),
-        "NamedConceptRemoveError::InsufficientPermissions NamedConceptRemoveError::InternalError NamedConceptRemoveError::NoMemory "
-    );
+    for (error, text) in [
+        (InsufficientPermissions, "InsufficientPermissions"),
+        (InternalError, "InternalError"),
+        (NoMemory, "NoMemory"),
+    ] {
+        let expected = format!(in rt.alloc(); "NamedConceptRemoveError::{text}")?;
+        assert_eq!(rt; error.to_string(rt.alloc())?.as_str(), expected.as_str());
+    }
     Ok(())
 }
 
 #[test]
 fn refusals_of_lists_are_printed(rt: HostRuntime) -> Result<(), Fail> {
     use NamedConceptListError::{InsufficientPermissions, InternalError, NoMemory};
-    let texts = printed(
-        rt.alloc(),
-        &[InsufficientPermissions, InternalError, NoMemory],
-    )?;
-    assert_eq!(rt;
-        texts.as_str(),
-        "NamedConceptListError::InsufficientPermissions NamedConceptListError::InternalError NamedConceptListError::NoMemory "
-    );
+    for (error, text) in [
+        (InsufficientPermissions, "InsufficientPermissions"),
+        (InternalError, "InternalError"),
+        (NoMemory, "NoMemory"),
+    ] {
+        let expected = format!(in rt.alloc(); "NamedConceptListError::{text}")?;
+        assert_eq!(rt; error.to_string(rt.alloc())?.as_str(), expected.as_str());
+    }
     Ok(())
 }
 
 #[test]
 fn other_refusals_are_printed(rt: HostRuntime) -> Result<(), Fail> {
     use NamedConceptPathHintRemoveError::{InsufficientPermissions, InternalError};
-    let texts = printed(rt.alloc(), &[InsufficientPermissions, InternalError])?;
-    assert_eq!(rt;
-        texts.as_str(),
-        "NamedConceptPathHintRemoveError::InsufficientPermissions NamedConceptPathHintRemoveError::InternalError "
-    );
-    let texts = printed(rt.alloc(), &[PathTooLong])?;
-    assert_eq!(rt; texts.as_str(), "PathTooLong ");
+    for (error, text) in [
+        (InsufficientPermissions, "InsufficientPermissions"),
+        (InternalError, "InternalError"),
+    ] {
+        let expected = format!(in rt.alloc(); "NamedConceptPathHintRemoveError::{text}")?;
+        assert_eq!(rt; error.to_string(rt.alloc())?.as_str(), expected.as_str());
+    }
+    assert_eq!(rt; PathTooLong.to_string(rt.alloc())?.as_str(), "PathTooLong");
     Ok(())
 }
 

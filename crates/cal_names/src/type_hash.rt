@@ -1,4 +1,5 @@
-//! The hash of a type's name: what tells the stored types of two storages apart in their paths.
+//! The hash of a type's name: what tells the stored types of two storages apart in their paths. It is the SHA-1 of the
+//! name (RFC 3174) in base64url without padding (RFC 4648, section 5).
 ghost use Rattle.std.specs.Prelude.{◌≡◌, ◌*◌, ◌-◌, ◌/◌, ◌%◌, ◌^◌, ◌<◌, slice_index};
 ghost use Rattle.std.specs.Int.Digits.{number_from_digits};
 ghost use Rattle.cal_names.specs.TypeHash.{type_hash_of, hash_letters};
@@ -14,23 +15,23 @@ const LETTERS: [u8; 64] = *b"ABCDEFGHIJKLMNOPQRSTUVWXYZabcdefghijklmnopqrstuvwxy
 
 /// The SHA-1 of a type's name as URL-safe base64 without padding.
 pub fn type_hash(name: &TypeName) -> [u8; TEXT_LEN]
-    ensures { result ≡ type_hash_of name.now }
+    ensures letters { result ≡ type_hash_of name.now }
 {
     let hash = Sha1::digest(name.as_bytes());
     let mut text = [0; TEXT_LEN];
-    for place in 0..TEXT_LEN {
-        text[place] = letter(sextet(&hash, place));
+    for index in 0..TEXT_LEN {
+        text[index] = letter(sextet(&hash, index));
     }
     text
 }
 
-/// Six bits of the hash and two zero bits behind it, from bit `6 * place` on, where bit 0 is the
+/// Six bits of the hash and two zero bits after it, from bit `6 * index` on, where bit 0 is the
 /// highest.
-fn sextet(hash: &[u8; HASH_LEN], place: usize) -> u8
-    requires { place < 27 }
-    ensures { result ≡ number_from_digits 256 hash.now * 4 / 2 ^ (6 * (26 - place)) % 64 }
+fn sextet(hash: &[u8; HASH_LEN], index: usize) -> u8
+    requires { index < 27 }
+    ensures { result ≡ number_from_digits 256 hash.now * 4 / 2 ^ (6 * (26 - index)) % 64 }
 {
-    let (byte, bit) = (6 * place / 8, 6 * place % 8);
+    let (byte, bit) = (6 * index / 8, 6 * index % 8);
     let high = u16::from(hash[byte]);
     let low = u16::from(hash.get(byte + 1).copied().unwrap_or(0));
     ((high * 256 + low >> (10 - bit)) % 64) as u8

@@ -11,6 +11,7 @@ const MAX_LEN: usize = 255;
 /// order are those of the bytes.
 #[derive(Clone, Copy, Debug, PartialEq, Eq, PartialOrd, Ord)]
 pub struct TypeName {
+    /// The bytes, at most 255.
     bytes: BoundedBytes<MAX_LEN>,
 }
 

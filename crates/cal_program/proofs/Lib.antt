@@ -1,5 +1,5 @@
 pub mod StreamLemmas
-pub mod PageLemmas
+pub mod BufferLemmas
 pub mod WordLemmas
 pub mod PieceLemmas
 pub mod ScriptLemmas

@@ -9,31 +9,33 @@ use Rattle.cal_transport.specs.declared.command.Command.{Command}
 use Rattle.cal_transport.specs.declared.reply.Reply.{Reply}
 use Rattle.cal_transport.specs.Settings.{create_cause}
 use Rattle.cal_transport.specs.Ledger.{Ledger, first_ledger}
-use Rattle.cal_transport.specs.Step.{after}
+use Rattle.cal_transport.specs.Step.{after_step}
 use Rattle.cal_transport.specs.Built.{is_built}
 use Rattle.cal_transport.specs.declared.command.Command.TheVariants as command
 use Rattle.cal_transport.specs.Run.{StopsAt, StopsUnbuilt, IsCount, HasNoCount}
 use Rattle.cal_program.specs.declared.status.Status.{Status}
 use Rattle.cal_program.specs.declared.status.Status.TheVariants.{Done, BadScript, NotCreated, ReadFault, WriteFault, NoMemory, Usage, TooLong, NotBuilt}
-use Rattle.cal_program.specs.Script.{Reading, script_of}
+use Rattle.cal_program.specs.Script.{ParsedScript, script_of}
 use Rattle.cal_program.specs.ReplyText.{reply_lines}
 use Rattle.cal_program.specs.Streams.{SourceState, SinkState, Rose, PutsAll}
 use Rattle.cal_program.specs.ReadAll.{script_limit, ReadsAll}
-use Rattle.cal_program.specs.Outcome.{asks_for_run, status_text, script_status, due_status, IsAnswer, IsVerdict, IsDue, IsWritten, EndsDue, is_unbuilt, IsRight, AreRepliesTo}
+use Rattle.cal_program.specs.Outcome.{asks_for_run, status_text, script_status, due_status, IsOutcomeOfScript, IsOutcomeOfBytes, IsDue, IsWritten, EndsDue, is_unbuilt, IsDueOrExcused, AreRepliesTo}
 
 -- ---- the bytes that were read are those that the source told
 
 abbrev told : Option (List ℕ) → List ℕ → Type 0
 told left bytes = left ≡ Some bytes
 
-whole-told : (left now : Option (List ℕ)) (xs bytes : List ℕ) → left ≡ Some xs → Consumes left now bytes → IsAtEnd now → xs ≡ bytes
+whole-told : (left now : Option (List ℕ)) (xs bytes : List ℕ) → left ≡ Some xs → Consumes left now bytes → IsAtEnd now →
+    xs ≡ bytes
 whole-told None now xs bytes e c end = absurd cc
 whole-told (Some ys) None xs bytes e c end = absurd c
 whole-told (Some ys) (Some zs) xs bytes e c end =
     let same : ys ≡ xs = cc in
     sym same ∙ c ∙ ap (λ (rest : List ℕ). bytes ++ rest) end ∙ append-nil bytes
 
-front-told : (left now : Option (List ℕ)) (xs bytes : List ℕ) → left ≡ Some xs → Consumes left now bytes → length bytes ≤ length xs
+front-told : (left now : Option (List ℕ)) (xs bytes : List ℕ) → left ≡ Some xs → Consumes left now bytes →
+    length bytes ≤ length xs
 front-told None now xs bytes e c = absurd cc
 front-told (Some ys) None xs bytes e c = absurd c
 front-told (Some ys) (Some zs) xs bytes e c =
@@ -42,28 +44,35 @@ front-told (Some ys) (Some zs) xs bytes e c =
 
 -- ---- the due status of bytes that aren't too many
 
-due_status-run : (words : List (List ℕ)) (bytes : List ℕ) → IsTrue (asks_for_run words) → length bytes ≤ script_limit → due_status words bytes ≡ script_status (script_of bytes)
+due_status-run : (words : List (List ℕ)) (bytes : List ℕ) → IsTrue (asks_for_run words) → length bytes ≤ script_limit →
+    due_status words bytes ≡ script_status (script_of bytes)
 due_status-run words bytes asks within = rw (asks, le-ltb script_limit (length bytes) within) refl
 
-due_status-long : (words : List (List ℕ)) (bytes : List ℕ) → IsTrue (asks_for_run words) → script_limit < length bytes → due_status words bytes ≡ TooLong
+due_status-long : (words : List (List ℕ)) (bytes : List ℕ) → IsTrue (asks_for_run words) → script_limit < length bytes →
+    due_status words bytes ≡ TooLong
 due_status-long words bytes asks long = rw (asks, lt-ltb script_limit (length bytes) long) refl
 
-due_status-usage : (words : List (List ℕ)) (bytes : List ℕ) → asks_for_run words ≡ false → due_status words bytes ≡ Usage
+due_status-usage : (words : List (List ℕ)) (bytes : List ℕ) → asks_for_run words ≡ false →
+    due_status words bytes ≡ Usage
 due_status-usage words bytes none = rw none refl
 
 -- ---- which scripts are served
 
-any-first : (command : Command) (commands : List Command) → is_unbuilt command ≡ true → list_any is_unbuilt (command ∷ commands) ≡ true
+any-first : (command : Command) (commands : List Command) → is_unbuilt command ≡ true →
+    list_any is_unbuilt (command ∷ commands) ≡ true
 any-first command commands e = rw e refl
 
-any-later : (command : Command) (commands : List Command) → list_any is_unbuilt commands ≡ true → list_any is_unbuilt (command ∷ commands) ≡ true
-any-later command commands e = rw e (elim (is_unbuilt command) as (λ b. (b || true) ≡ true) [ true ↦ refl | false ↦ refl ])
+any-later : (command : Command) (commands : List Command) → list_any is_unbuilt commands ≡ true →
+    list_any is_unbuilt (command ∷ commands) ≡ true
+any-later command commands e =
+    rw e (elim (is_unbuilt command) as (λ b. (b || true) ≡ true) [ true ↦ refl | false ↦ refl ])
 
-stops-unbuilt : (l : Ledger) (place : ℕ) (commands : List Command) (replies : List Reply) → StopsAt IsCount l place commands replies → list_any is_unbuilt commands ≡ true
+stops-unbuilt : (l : Ledger) (place : ℕ) (commands : List Command) (replies : List Reply) →
+    StopsAt IsCount l place commands replies → list_any is_unbuilt commands ≡ true
 stops-unbuilt l place [] replies h = absurd h
 stops-unbuilt l place (asked ∷ commands) [] h = any-first asked commands (ap is_unbuilt h)
 stops-unbuilt l place (asked ∷ commands) (reply ∷ replies) h =
-    any-later asked commands (stops-unbuilt (after l place asked reply) (place + 1) commands replies h.1)
+    any-later asked commands (stops-unbuilt (after_step l place asked reply) (place + 1) commands replies h.1)
 
 no-count : (commands : List Command) → HasNoCount commands → list_any is_unbuilt commands ≡ false
 no-count [] h = refl
@@ -77,22 +86,28 @@ no-count (command.Reclaim channel ∷ commands) h = no-count commands (λ place.
 no-count (command.Discard chunk ∷ commands) h = no-count commands (λ place. h (suc place))
 no-count (command.Count ∷ commands) h = absurd (h 0 refl)
 
-done-status : (script : Reading) → create_cause script.settings ≡ None → is_built script.settings ≡ true → HasNoCount script.commands → Done ≡ script_status (Ok script)
+done-status : (script : ParsedScript) → create_cause script.settings ≡ None → is_built script.settings ≡ true →
+    HasNoCount script.commands → Done ≡ script_status (Ok script)
 done-status script created built h = rw (created, built, no-count script.commands h) refl
 
-stops-status : (script : Reading) (replies : List Reply) (built : Bool) → create_cause script.settings ≡ None → is_built script.settings ≡ built → StopsUnbuilt script.settings script.commands replies → NotBuilt ≡ script_status (Ok script)
+stops-status : (script : ParsedScript) (replies : List Reply) (built : Bool) → create_cause script.settings ≡ None →
+    is_built script.settings ≡ built → StopsUnbuilt script.settings script.commands replies →
+    NotBuilt ≡ script_status (Ok script)
 stops-status script replies false created built h = rw (created, built) refl
 stops-status script replies true created built h =
-    let stops = subst (λ (b : Bool). MatchBool b (StopsAt IsCount (first_ledger script.settings) 1 script.commands replies) (replies ≡ [])) built h in
+    let stops = subst (λ (b : Bool).
+    MatchBool b (StopsAt IsCount (first_ledger script.settings) 1 script.commands replies) (replies ≡ [])) built
+    h in
     rw (created, built, stops-unbuilt (first_ledger script.settings) 1 script.commands replies stops) refl
 
 -- ---- what was judged of bytes that were read
 
 -- the status is that of the script, or it comes for want of memory
-abbrev IsFair : Status → Result Reading ℕ → Type 0
+abbrev IsFair : Status → Result ParsedScript ℕ → Type 0
 IsFair status found = (status ≡ script_status found) ⊎ (status ≡ NoMemory)
 
-answer-fair : (script : Reading) (status : Status) (replies : List Reply) → IsAnswer script status replies → IsFair status (Ok script)
+answer-fair : (script : ParsedScript) (status : Status) (replies : List Reply) →
+    IsOutcomeOfScript script status replies → IsFair status (Ok script)
 answer-fair script Done replies h = inl (done-status script h.0 h.1 h.2)
 answer-fair script (BadScript number) replies h = absurd h
 answer-fair script (NotCreated cause) replies h = inl (rw h.0 refl)
@@ -103,10 +118,14 @@ answer-fair script Usage replies h = absurd h
 answer-fair script TooLong replies h = absurd h
 answer-fair script NotBuilt replies h = inl (stops-status script h.1.0 (is_built script.settings) h.0 refl h.1.1)
 
-script-fair : (bytes : List ℕ) (status : Status) (replies : List Reply) → ((script : Reading) × (script_of bytes ≡ Ok script) × IsAnswer script status replies) → IsFair status (script_of bytes)
-script-fair bytes status replies h = subst (λ (found : Result Reading ℕ). IsFair status found) (sym h.1) (answer-fair h.0 status replies h.2)
+script-fair : (bytes : List ℕ) (status : Status) (replies : List Reply) →
+    ((script : ParsedScript) × (script_of bytes ≡ Ok script) × IsOutcomeOfScript script status replies) →
+    IsFair status (script_of bytes)
+script-fair bytes status replies h = subst
+    (λ (found : Result ParsedScript ℕ). IsFair status found) (sym h.1) (answer-fair h.0 status replies h.2)
 
-verdict-fair : (bytes : List ℕ) (status : Status) (replies : List Reply) → IsVerdict bytes status replies → IsFair status (script_of bytes)
+verdict-fair : (bytes : List ℕ) (status : Status) (replies : List Reply) → IsOutcomeOfBytes bytes status replies →
+    IsFair status (script_of bytes)
 verdict-fair bytes (BadScript number) replies h = inl (rw h.0 refl)
 verdict-fair bytes NoMemory replies h = inr refl
 verdict-fair bytes Done replies h = script-fair bytes Done replies h
@@ -119,26 +138,34 @@ verdict-fair bytes NotBuilt replies h = script-fair bytes NotBuilt replies h
 
 -- ---- the status that is due
 
-excused-right : (words : List (List ℕ)) (bytes : List ℕ) (before now : SourceState) (sink_before sink_now : SinkState) (status : Status) → IsTrue (asks_for_run words) → due_status words bytes ≡ script_status (script_of bytes) → IsFair status (script_of bytes) → IsRight words bytes before now sink_before sink_now status
+excused-right : (words : List (List ℕ)) (bytes : List ℕ) (before now : SourceState) (sink_before sink_now : SinkState)
+    (status : Status) → IsTrue (asks_for_run words) → due_status words bytes ≡ script_status (script_of bytes) →
+    IsFair status (script_of bytes) → IsDueOrExcused words bytes before now sink_before sink_now status
 excused-right words bytes before now sink_before sink_now status asks due fair =
     elim fair [
       | inl e ↦ inl (e ∙ sym due)
-      | inr e ↦ subst (λ (s : Status). IsRight words bytes before now sink_before sink_now s) (sym e) (inr asks)
+      | inr e ↦ subst (λ (s : Status). IsDueOrExcused words bytes before now sink_before sink_now s) (sym e) (inr asks)
     ]
 
 -- a status that comes after all bytes were read
-read-right : (words : List (List ℕ)) (before now : SourceState) (sink_before sink_now : SinkState) (xs : List ℕ) (status : Status) (replies : List Reply) → before.left ≡ Some xs → IsTrue (asks_for_run words) → ((bytes : List ℕ) × ReadsAll before now bytes × IsVerdict bytes status replies) → IsRight words xs before now sink_before sink_now status
+read-right : (words : List (List ℕ)) (before now : SourceState) (sink_before sink_now : SinkState) (xs : List ℕ)
+    (status : Status) (replies : List Reply) → before.left ≡ Some xs → IsTrue (asks_for_run words) →
+    ((bytes : List ℕ) × ReadsAll before now bytes × IsOutcomeOfBytes bytes status replies) →
+    IsDueOrExcused words xs before now sink_before sink_now status
 read-right words before now sink_before sink_now xs status replies tells asks h =
     let same : xs ≡ h.0 = whole-told before.left now.left xs h.0 tells h.1.taken.front h.1.ended in
     let within : length xs ≤ script_limit = omega (arith, ap length same, h.1.within) in
     excused-right words xs before now sink_before sink_now status asks (due_status-run words xs asks within)
     (subst (λ (bytes : List ℕ). IsFair status (script_of bytes)) (sym same) (verdict-fair h.0 status replies h.2))
 
-due-right : (words : List (List ℕ)) (before now : SourceState) (sink_before sink_now : SinkState) (xs : List ℕ) (status : Status) (replies : List Reply) → before.left ≡ Some xs → IsDue words before now status replies → IsRight words xs before now sink_before sink_now status
+due-right : (words : List (List ℕ)) (before now : SourceState) (sink_before sink_now : SinkState) (xs : List ℕ)
+    (status : Status) (replies : List Reply) → before.left ≡ Some xs → IsDue words before now status replies →
+    IsDueOrExcused words xs before now sink_before sink_now status
 due-right words before now sink_before sink_now xs Usage replies tells h = inl (sym (due_status-usage words xs h.0))
-due-right words before now sink_before sink_now xs ReadFault replies tells h = inr (h.0, h.2)
+due-right words before now sink_before sink_now xs ReadFault replies tells h = inr (h.0, h.1.fault)
 due-right words before now sink_before sink_now xs TooLong replies tells h =
-    inl (sym (due_status-long words xs h.0 (omega (arith, h.1.2, front-told before.left now.left xs h.1.0 tells h.1.1.front))))
+    inl (sym (due_status-long words xs h.0
+    (omega (arith, h.1.past, front-told before.left now.left xs h.1.bytes tells h.1.taken.front))))
 due-right words before now sink_before sink_now xs NoMemory [] tells h = inr h.0
 due-right words before now sink_before sink_now xs NoMemory (reply ∷ replies) tells h = inr h.0
 due-right words before now sink_before sink_now xs Done replies tells h =
@@ -154,7 +181,8 @@ due-right words before now sink_before sink_now xs NotBuilt replies tells h =
 
 -- ---- the status that the program ends with
 
-written-status : (before now : SinkState) (text : List ℕ) (due status : Status) → IsWritten before now text due status → ((status ≡ WriteFault) × Rose before.faults now.faults) ⊎ ((status ≡ due) × PutsAll before now text)
+written-status : (before now : SinkState) (text : List ℕ) (due status : Status) → IsWritten before now text due status →
+    ((status ≡ WriteFault) × Rose before.faults now.faults) ⊎ ((status ≡ due) × PutsAll before now text)
 written-status before now text due WriteFault h = inl (refl, h.puts.fault)
 written-status before now text due Done h = inr (h.1, h.0)
 written-status before now text due (BadScript number) h = inr (h.1, h.0)
@@ -165,11 +193,14 @@ written-status before now text due Usage h = inr (h.1, h.0)
 written-status before now text due TooLong h = inr (h.1, h.0)
 written-status before now text due NotBuilt h = inr (h.1, h.0)
 
-right-told : (words : List (List ℕ)) (before now : SourceState) (sink_before sink_now : SinkState) (status : Status) (replies : List Reply) (xs : List ℕ) → before.left ≡ Some xs → EndsDue words before now sink_before sink_now status replies → IsRight words xs before now sink_before sink_now status
+right-told : (words : List (List ℕ)) (before now : SourceState) (sink_before sink_now : SinkState) (status : Status)
+    (replies : List Reply) (xs : List ℕ) → before.left ≡ Some xs →
+    EndsDue words before now sink_before sink_now status replies →
+    IsDueOrExcused words xs before now sink_before sink_now status
 right-told words before now sink_before sink_now status replies xs tells h =
     elim (written-status sink_before sink_now (status_text h.0 replies) h.0 status h.2) [
-      | inl p ↦ subst (λ (s : Status). IsRight words xs before now sink_before sink_now s) (sym p.0) (inr p.1)
-      | inr p ↦ subst (λ (s : Status). IsRight words xs before now sink_before sink_now s) (sym p.0)
+      | inl p ↦ subst (λ (s : Status). IsDueOrExcused words xs before now sink_before sink_now s) (sym p.0) (inr p.1)
+      | inr p ↦ subst (λ (s : Status). IsDueOrExcused words xs before now sink_before sink_now s) (sym p.0)
           (due-right words before now sink_before sink_now xs h.0 replies tells h.1)
     ]
 
@@ -178,15 +209,19 @@ if-told : (left : Option (List ℕ)) (P : List ℕ → Type 0) → ((xs : List �
 if-told None P f = tt
 if-told (Some xs) P f = f xs refl
 
-pub EndsDue-right : (words : List (List ℕ)) (before now : SourceState) (sink_before sink_now : SinkState) (status : Status) (replies : List Reply) → EndsDue words before now sink_before sink_now status replies → IfSome before.left (λ bytes. IsRight words bytes before now sink_before sink_now status)
+pub EndsDue-right : (words : List (List ℕ)) (before now : SourceState) (sink_before sink_now : SinkState)
+    (status : Status) (replies : List Reply) → EndsDue words before now sink_before sink_now status replies →
+    IfSome before.left (λ bytes. IsDueOrExcused words bytes before now sink_before sink_now status)
 EndsDue-right words before now sink_before sink_now status replies h =
-    if-told before.left (λ bytes. IsRight words bytes before now sink_before sink_now status)
+    if-told before.left (λ bytes. IsDueOrExcused words bytes before now sink_before sink_now status)
     (λ xs tells. right-told words before now sink_before sink_now status replies xs tells h)
 
 -- ---- a run that is done
 
 -- some status was due, and it is that with which the program ends
-done-due : (words : List (List ℕ)) (before now : SourceState) (sink_before sink_now : SinkState) (status : Status) (replies : List Reply) → status ≡ Done → EndsDue words before now sink_before sink_now status replies → IsDue words before now Done replies × PutsAll sink_before sink_now (reply_lines replies)
+done-due : (words : List (List ℕ)) (before now : SourceState) (sink_before sink_now : SinkState) (status : Status)
+    (replies : List Reply) → status ≡ Done → EndsDue words before now sink_before sink_now status replies →
+    IsDue words before now Done replies × PutsAll sink_before sink_now (reply_lines replies)
 done-due words before now sink_before sink_now status replies done h =
     elim (written-status sink_before sink_now (status_text h.0 replies) h.0 status h.2) [
       | inl p ↦ absurd (let e : WriteFault ≡ Done = sym p.0 ∙ done in cc)
@@ -196,35 +231,22 @@ done-due words before now sink_before sink_now status replies done h =
       )
     ]
 
-pub EndsDue-written : (words : List (List ℕ)) (before now : SourceState) (sink_before sink_now : SinkState) (status : Status) (replies : List Reply) → EndsDue words before now sink_before sink_now status replies → status ≡ Done → PutsAll sink_before sink_now (reply_lines replies)
+pub EndsDue-written : (words : List (List ℕ)) (before now : SourceState) (sink_before sink_now : SinkState)
+    (status : Status) (replies : List Reply) → EndsDue words before now sink_before sink_now status replies →
+    status ≡ Done → PutsAll sink_before sink_now (reply_lines replies)
 EndsDue-written words before now sink_before sink_now status replies h done =
     (done-due words before now sink_before sink_now status replies done h).1
 
-done-told : (words : List (List ℕ)) (before now : SourceState) (replies : List Reply) (xs : List ℕ) → before.left ≡ Some xs → IsDue words before now Done replies → AreRepliesTo xs replies
+done-told : (words : List (List ℕ)) (before now : SourceState) (replies : List Reply) (xs : List ℕ) →
+    before.left ≡ Some xs → IsDue words before now Done replies → AreRepliesTo xs replies
 done-told words before now replies xs tells h =
     let same : xs ≡ h.1.0 = whole-told before.left now.left xs h.1.0 tells h.1.1.taken.front h.1.1.ended in
     subst (λ (bytes : List ℕ). AreRepliesTo bytes replies) (sym same) (h.1.2.0, h.1.2.1, h.1.2.2.3)
 
-pub EndsDue-done : (words : List (List ℕ)) (before now : SourceState) (sink_before sink_now : SinkState) (status : Status) (replies : List Reply) → EndsDue words before now sink_before sink_now status replies → status ≡ Done → IfSome before.left (λ bytes. AreRepliesTo bytes replies)
+pub EndsDue-done : (words : List (List ℕ)) (before now : SourceState) (sink_before sink_now : SinkState)
+    (status : Status) (replies : List Reply) → EndsDue words before now sink_before sink_now status replies →
+    status ≡ Done → IfSome before.left (λ bytes. AreRepliesTo bytes replies)
 EndsDue-done words before now sink_before sink_now status replies h done =
     if-told before.left (λ bytes. AreRepliesTo bytes replies)
-    (λ xs tells. done-told words before now replies xs tells (done-due words before now sink_before sink_now status replies done h).0)
-
--- ---- a valid script
-
-served-right : (words : List (List ℕ)) (bytes : List ℕ) (before now : SourceState) (sink_before sink_now : SinkState) (status : Status) → IsRight words bytes before now sink_before sink_now status → due_status words bytes ≡ Done → ¬ Rose before.faults now.faults → ¬ Rose sink_before.faults sink_now.faults → (status ≡ Done) ⊎ (status ≡ NoMemory)
-served-right words bytes before now sink_before sink_now status (inl e) served clean_source clean_sink = inl (e ∙ served)
-served-right words bytes before now sink_before sink_now Done (inr h) served clean_source clean_sink = absurd h
-served-right words bytes before now sink_before sink_now (BadScript number) (inr h) served clean_source clean_sink = absurd h
-served-right words bytes before now sink_before sink_now (NotCreated cause) (inr h) served clean_source clean_sink = absurd h
-served-right words bytes before now sink_before sink_now ReadFault (inr h) served clean_source clean_sink = absurd (clean_source h.1)
-served-right words bytes before now sink_before sink_now WriteFault (inr h) served clean_source clean_sink = absurd (clean_sink h)
-served-right words bytes before now sink_before sink_now NoMemory (inr h) served clean_source clean_sink = inr refl
-served-right words bytes before now sink_before sink_now Usage (inr h) served clean_source clean_sink = absurd h
-served-right words bytes before now sink_before sink_now TooLong (inr h) served clean_source clean_sink = absurd h
-served-right words bytes before now sink_before sink_now NotBuilt (inr h) served clean_source clean_sink = absurd h
-
-pub EndsDue-complete : (words : List (List ℕ)) (before now : SourceState) (sink_before sink_now : SinkState) (status : Status) (replies : List Reply) → EndsDue words before now sink_before sink_now status replies → IfSome before.left (λ bytes. due_status words bytes ≡ Done → ¬ Rose before.faults now.faults → ¬ Rose sink_before.faults sink_now.faults → (status ≡ Done) ⊎ (status ≡ NoMemory))
-EndsDue-complete words before now sink_before sink_now status replies h =
-    if-told before.left (λ bytes. due_status words bytes ≡ Done → ¬ Rose before.faults now.faults → ¬ Rose sink_before.faults sink_now.faults → (status ≡ Done) ⊎ (status ≡ NoMemory))
-    (λ xs tells. served-right words xs before now sink_before sink_now status (right-told words before now sink_before sink_now status replies xs tells h))
+    (λ xs tells. done-told words before now replies xs tells
+    (done-due words before now sink_before sink_now status replies done h).0)

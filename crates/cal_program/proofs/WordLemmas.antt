@@ -36,42 +36,55 @@ guard-all true false c n e f g = absurd cc
 guard-all true true false n e f g = absurd cc
 
 -- another byte than a digit
-all_digits-without : (word : List ℕ) (i : ℕ) → i < length word → is_ascii_digit (get_or word i 0) ≡ false → all_ascii_digits word ≡ false
+all_digits-without : (word : List ℕ) (i : ℕ) → i < length word → is_ascii_digit (get_or word i 0) ≡ false →
+    all_ascii_digits word ≡ false
 all_digits-without [] i h e = absurd (omega arith)
 all_digits-without (c ∷ word) zero h e = rw e refl
 all_digits-without (c ∷ word) (suc i) h e =
     let others = all_digits-without word i (omega arith) e in
     elim (is_ascii_digit c) as (λ b. (b && all_ascii_digits word) ≡ false) [ true ↦ others | false ↦ refl ]
 
-pub number_of-other : (word : List ℕ) (i : ℕ) → i < length word → is_ascii_digit (get_or word i 0) ≡ false → None ≡ number_of word
+pub number_of-other : (word : List ℕ) (i : ℕ) → i < length word → is_ascii_digit (get_or word i 0) ≡ false →
+    None ≡ number_of word
 number_of-other word i h e =
-    sym (guard-second (begins_well word) (all_ascii_digits word) (nat_lt (digits_value 10 word) (2 ^ 64)) (digits_value 10 word) (all_digits-without word i h e))
+    sym (guard-second (begins_well word) (all_ascii_digits word) (nat_lt (digits_value 10 word) (2 ^ 64))
+    (digits_value 10 word) (all_digits-without word i h e))
 
 -- the digits up to here are too many
-pub number_of-great : (word : List ℕ) (i : ℕ) → i < length word → 2 ^ 64 ≤ digits_value 10 (take i word) * 10 + digit_value (get_or word i 0) → None ≡ number_of word
+pub number_of-great : (word : List ℕ) (i : ℕ) → i < length word →
+    2 ^ 64 ≤ digits_value 10 (take i word) * 10 + digit_value (get_or word i 0) → None ≡ number_of word
 number_of-great word i h great =
-    let most : 2 ^ 64 ≤ digits_value 10 word = omega (arith, digits_value_more 10 word i h, digits_value-take-le 10 word (i + 1) (omega arith)) in
-    sym (guard-third (begins_well word) (all_ascii_digits word) (nat_lt (digits_value 10 word) (2 ^ 64)) (digits_value 10 word) (le-ltb (digits_value 10 word) (2 ^ 64) most))
+    let most : 2 ^ 64 ≤ digits_value 10 word =
+    omega (arith, digits_value_more 10 word i h, digits_value-take-le 10 word (i + 1) (omega arith)) in
+    sym (guard-third (begins_well word) (all_ascii_digits word) (nat_lt (digits_value 10 word) (2 ^ 64))
+    (digits_value 10 word) (le-ltb (digits_value 10 word) (2 ^ 64) most))
 
-pub number_of-all : (word : List ℕ) (i value : ℕ) → begins_well word ≡ true → length word ≡ i → all_ascii_digits (take i word) ≡ true → value ≡ digits_value 10 (take i word) → value < 2 ^ 64 → Some value ≡ number_of word
+pub number_of-all : (word : List ℕ) (i value : ℕ) → begins_well word ≡ true → length word ≡ i →
+    all_ascii_digits (take i word) ≡ true → value ≡ digits_value 10 (take i word) → value < 2 ^ 64 →
+    Some value ≡ number_of word
 number_of-all word i value begins past digits is fits =
     let whole : take i word ≡ word = rw (← past) (take-length word) in
     let all : all_ascii_digits word ≡ true = subst (λ (t : List ℕ). all_ascii_digits t ≡ true) whole digits in
     let same : value ≡ digits_value 10 word = is ∙ ap (λ (t : List ℕ). digits_value 10 t) whole in
-    ap Some same ∙ sym (guard-all (begins_well word) (all_ascii_digits word) (nat_lt (digits_value 10 word) (2 ^ 64)) (digits_value 10 word) begins all
+    ap Some same ∙ sym (guard-all (begins_well word) (all_ascii_digits word) (nat_lt (digits_value 10 word) (2 ^ 64))
+    (digits_value 10 word) begins all
     (lt-ltb (digits_value 10 word) (2 ^ 64) (omega (arith, same))))
 
 pub number_of-ill : (word : List ℕ) → begins_well word ≡ false → None ≡ number_of word
-number_of-ill word e = sym (guard-first (begins_well word) (all_ascii_digits word) (nat_lt (digits_value 10 word) (2 ^ 64)) (digits_value 10 word) e)
+number_of-ill word e = sym
+    (guard-first (begins_well word) (all_ascii_digits word) (nat_lt (digits_value 10 word) (2 ^ 64))
+    (digits_value 10 word) e)
 
-all_digits-append : (xs ys : List ℕ) → all_ascii_digits xs ≡ true → all_ascii_digits ys ≡ true → all_ascii_digits (xs ++ ys) ≡ true
+all_digits-append : (xs ys : List ℕ) → all_ascii_digits xs ≡ true → all_ascii_digits ys ≡ true →
+    all_ascii_digits (xs ++ ys) ≡ true
 all_digits-append [] ys p q = q
 all_digits-append (x ∷ xs) ys p q =
     let parts = and_parts (is_ascii_digit x) (all_ascii_digits xs) p in
     rw (parts.0, all_digits-append xs ys parts.1 q) refl
 
 -- one digit more
-pub all_digits-more : (word : List ℕ) (i : ℕ) → i < length word → is_ascii_digit (get_or word i 0) ≡ true → all_ascii_digits (take i word) ≡ true → all_ascii_digits (take (i + 1) word) ≡ true
+pub all_digits-more : (word : List ℕ) (i : ℕ) → i < length word → is_ascii_digit (get_or word i 0) ≡ true →
+    all_ascii_digits (take i word) ≡ true → all_ascii_digits (take (i + 1) word) ≡ true
 all_digits-more word i h digit before =
     rw (add-one, take-suc word i 0 h)
     (all_digits-append (take i word) (get_or word i 0 ∷ []) before (rw digit refl))
@@ -87,7 +100,8 @@ digit_value-minus c e =
 abbrev pub with_front : List ℕ → Option (List ℕ) → Option (List ℕ)
 with_front front found = option_map (λ bytes. front ++ bytes) found
 
-letters-cut : (letters : List ℕ) (place : ℕ) → place + 1 < length letters → drop place letters ≡ get_or letters place 0 ∷ get_or letters (place + 1) 0 ∷ drop (place + 2) letters
+letters-cut : (letters : List ℕ) (place : ℕ) → place + 1 < length letters →
+    drop place letters ≡ get_or letters place 0 ∷ get_or letters (place + 1) 0 ∷ drop (place + 2) letters
 letters-cut letters place h =
     drop-cons letters place 0 (omega arith)
     ∙ ap (λ (t : List ℕ). get_or letters place 0 ∷ t)
@@ -95,32 +109,43 @@ letters-cut letters place h =
     ∙ drop-cons letters (place + 1) 0 h
     ∙ ap (λ (n : ℕ). get_or letters (place + 1) 0 ∷ drop n letters) {x = suc (place + 1)} {y = place + 2} (omega arith))
 
-front-step : (front : List ℕ) (byte : ℕ) (found : Option (List ℕ)) → with_front front (option_map (λ bytes. byte ∷ bytes) found) ≡ with_front (front ++ byte ∷ []) found
+front-step : (front : List ℕ) (byte : ℕ) (found : Option (List ℕ)) →
+    with_front front (option_map (λ bytes. byte ∷ bytes) found) ≡ with_front (front ++ byte ∷ []) found
 front-step front byte None = refl
 front-step front byte (Some bytes) = ap Some (sym (append_assoc front (byte ∷ []) bytes))
 
-pair-step : (high low byte : ℕ) (letters : List ℕ) → byte_of high low ≡ Some byte → bytes_of_letters (high ∷ low ∷ letters) ≡ option_map (λ bytes. byte ∷ bytes) (bytes_of_letters letters)
-pair-step high low byte letters e = rw e (elim (bytes_of_letters letters) as (λ found. option_and_then (λ bytes. Some (byte ∷ bytes)) found ≡ option_map (λ bytes. byte ∷ bytes) found) [ None ↦ refl | Some bytes ↦ refl ])
+pair-step : (high low byte : ℕ) (letters : List ℕ) → byte_of high low ≡ Some byte →
+    bytes_of_letters (high ∷ low ∷ letters) ≡ option_map (λ bytes. byte ∷ bytes) (bytes_of_letters letters)
+pair-step high low byte letters e =
+    rw e (elim (bytes_of_letters letters) as (λ found. option_and_then (λ bytes. Some (byte ∷ bytes)) found ≡ option_map
+    (λ bytes. byte ∷ bytes) found) [ None ↦ refl | Some bytes ↦ refl ])
 
 pair-none : (high low : ℕ) (letters : List ℕ) → byte_of high low ≡ None → bytes_of_letters (high ∷ low ∷ letters) ≡ None
 pair-none high low letters e = rw e refl
 
-pub letters-more : (front letters : List ℕ) (place byte : ℕ) (whole : Option (List ℕ)) → place + 1 < length letters → byte_of (get_or letters place 0) (get_or letters (place + 1) 0) ≡ Some byte → with_front front (bytes_of_letters (drop place letters)) ≡ whole → with_front (front ++ byte ∷ []) (bytes_of_letters (drop (place + 2) letters)) ≡ whole
+pub letters-more : (front letters : List ℕ) (place byte : ℕ) (whole : Option (List ℕ)) → place + 1 < length letters →
+    byte_of (get_or letters place 0) (get_or letters (place + 1) 0) ≡ Some byte →
+    with_front front (bytes_of_letters (drop place letters)) ≡ whole →
+    with_front (front ++ byte ∷ []) (bytes_of_letters (drop (place + 2) letters)) ≡ whole
 letters-more front letters place byte whole h e before =
     sym (front-step front byte (bytes_of_letters (drop (place + 2) letters)))
     ∙ ap (with_front front) (sym (ap bytes_of_letters (letters-cut letters place h)
     ∙ pair-step (get_or letters place 0) (get_or letters (place + 1) 0) byte (drop (place + 2) letters) e))
     ∙ before
 
-pub letters-none : (front letters : List ℕ) (place : ℕ) (whole : Option (List ℕ)) → place + 1 < length letters → byte_of (get_or letters place 0) (get_or letters (place + 1) 0) ≡ None → with_front front (bytes_of_letters (drop place letters)) ≡ whole → None ≡ whole
+pub letters-none : (front letters : List ℕ) (place : ℕ) (whole : Option (List ℕ)) → place + 1 < length letters →
+    byte_of (get_or letters place 0) (get_or letters (place + 1) 0) ≡ None →
+    with_front front (bytes_of_letters (drop place letters)) ≡ whole → None ≡ whole
 letters-none front letters place whole h e before =
     sym (ap (with_front front) (ap bytes_of_letters (letters-cut letters place h)
     ∙ pair-none (get_or letters place 0) (get_or letters (place + 1) 0) (drop (place + 2) letters) e))
     ∙ before
 
-pub letters-odd : (front letters : List ℕ) (place : ℕ) (whole : Option (List ℕ)) → place < length letters → length letters ≤ place + 1 → with_front front (bytes_of_letters (drop place letters)) ≡ whole → None ≡ whole
+pub letters-odd : (front letters : List ℕ) (place : ℕ) (whole : Option (List ℕ)) → place < length letters →
+    length letters ≤ place + 1 → with_front front (bytes_of_letters (drop place letters)) ≡ whole → None ≡ whole
 letters-odd front letters place whole h k before =
     let last : drop place letters ≡ get_or letters place 0 ∷ [] =
-    drop-cons letters place 0 h ∙ ap (λ (t : List ℕ). get_or letters place 0 ∷ t) (drop_of_length-le letters {i = suc place} (omega arith))
+    drop-cons letters place 0 h ∙ ap
+    (λ (t : List ℕ). get_or letters place 0 ∷ t) (drop_of_length-le letters {i = suc place} (omega arith))
     in
     sym (ap (with_front front) (ap bytes_of_letters last)) ∙ before

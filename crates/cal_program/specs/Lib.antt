@@ -4,7 +4,9 @@ pub mod Parsing
 pub mod Spelling
 pub mod ReplyText
 pub mod Streams
+pub mod MemoryStreams
 pub mod ReadAll
 pub mod Printing
 pub mod Outcome
+pub mod Information
 pub mod Examples

@@ -1,5 +1,5 @@
 -- What a run of the program owes: the status, the replies that it hands out, and the text that it writes.
-use Rattle.std.specs.Prelude.{ℕ, ◌≡◌, Bool, true, false, nat_lt, IsTrue, not, ◌&&◌, if◌then◌else◌, ◌⊎◌, List, [], ◌∷◌, ◌++◌, length, Option, Some, None, Result, Ok, Err, decimal, codes, bytes_eq}
+use Rattle.std.specs.Prelude.{ℕ, ◌≡◌, Bool, true, false, nat_lt, IsTrue, not, ◌&&◌, if◌then◌else◌, ◌⊎◌, List, [], ◌++◌, length, Option, Some, None, Result, Ok, Err, decimal, codes}
 use Rattle.std.specs.List.{list_any}
 use Rattle.cal_transport.specs.declared.settings.CreateCause.{CreateCause}
 use Rattle.cal_transport.specs.declared.settings.CreateCause.TheVariants.{BadLayout, SizeOutOfRange, SizeIsZero, InternalError}
@@ -11,18 +11,17 @@ use Rattle.cal_transport.specs.Built.{is_built}
 use Rattle.cal_transport.specs.Run.{IsRun, HasNoCount, StopsForMemory, StopsUnbuilt}
 use Rattle.cal_program.specs.declared.status.Status.{Status}
 use Rattle.cal_program.specs.declared.status.Status.TheVariants.{Done, BadScript, NotCreated, ReadFault, WriteFault, NoMemory, Usage, TooLong, NotBuilt}
-use Rattle.cal_program.specs.Script.{Reading, script_of}
+use Rattle.cal_program.specs.Words.{is_only_word}
+use Rattle.cal_program.specs.Script.{ParsedScript, script_of}
 use Rattle.cal_program.specs.ReplyText.{line, reply_lines}
 use Rattle.cal_program.specs.Streams.{SourceState, SinkState, Rose, PutsAll, FailsWithin}
-use Rattle.cal_program.specs.ReadAll.{script_limit, ReadsAll, ReadsSome, ReadsTooMany}
+use Rattle.cal_program.specs.ReadAll.{script_limit, ReadsAll, ReadsSome, ReadsTooMany, FailsReading}
 
 -- ---- words
 
 -- the command line asks for a run: the one word `run`
 abbrev pub asks_for_run : List (List ℕ) → Bool
-asks_for_run [] = false
-asks_for_run (word ∷ []) = bytes_eq word (codes "run")
-asks_for_run (word ∷ next ∷ words) = false
+asks_for_run words = is_only_word (codes "run") words
 
 -- ---- text
 
@@ -64,7 +63,7 @@ is_unbuilt command.Count = true
 is_unbuilt asked = false
 
 -- the settings and all commands are built
-abbrev pub is_served : Reading → Bool
+abbrev pub is_served : ParsedScript → Bool
 is_served script = is_built script.settings && not (list_any is_unbuilt script.commands)
 
 -- why no transport can be made with these settings; else whether the script is built
@@ -73,42 +72,47 @@ settings_status (Some cause) served = NotCreated cause
 settings_status None true = Done
 settings_status None false = NotBuilt
 
-abbrev pub script_status : Result Reading ℕ → Status
+abbrev pub script_status : Result ParsedScript ℕ → Status
 script_status (Err number) = BadScript number
 script_status (Ok script) = settings_status (create_cause script.settings) (is_served script)
 
 abbrev pub due_status : List (List ℕ) → List ℕ → Status
 due_status words bytes =
-    if asks_for_run words then (if nat_lt script_limit (length bytes) then TooLong else script_status (script_of bytes)) else Usage
+    if asks_for_run words then (if nat_lt script_limit (length bytes) then TooLong else script_status (script_of bytes))
+    else Usage
 
 -- ---- what is due for each status
 
 -- The transport answered a script so.
-abbrev pub IsAnswer : Reading → Status → List Reply → Type 0
-IsAnswer script Done replies =
-    (create_cause script.settings ≡ None) × IsTrue (is_built script.settings) × HasNoCount script.commands × IsRun script.settings script.commands replies
-IsAnswer script (NotCreated cause) replies = (create_cause script.settings ≡ Some cause) × (replies ≡ [])
-IsAnswer script NotBuilt replies =
-    (create_cause script.settings ≡ None) × ((answered : List Reply) × StopsUnbuilt script.settings script.commands answered) × (replies ≡ [])
-IsAnswer script NoMemory replies =
-    (create_cause script.settings ≡ None) × IsTrue (is_built script.settings) × StopsForMemory script.settings script.commands replies
-IsAnswer script other replies = ⊥
+abbrev pub IsOutcomeOfScript : ParsedScript → Status → List Reply → Type 0
+IsOutcomeOfScript script Done replies =
+    (create_cause script.settings ≡ None) × IsTrue (is_built script.settings) × HasNoCount script.commands ×
+    IsRun script.settings script.commands replies
+IsOutcomeOfScript script (NotCreated cause) replies = (create_cause script.settings ≡ Some cause) × (replies ≡ [])
+IsOutcomeOfScript script NotBuilt replies =
+    (create_cause script.settings ≡ None) ×
+    ((answered : List Reply) × StopsUnbuilt script.settings script.commands answered) × (replies ≡ [])
+IsOutcomeOfScript script NoMemory replies =
+    (create_cause script.settings ≡ None) × IsTrue (is_built script.settings) × StopsForMemory script.settings
+    script.commands replies
+IsOutcomeOfScript script other replies = ⊥
 
 -- These bytes were read to their end, and judged so.
-abbrev pub IsVerdict : List ℕ → Status → List Reply → Type 0
-IsVerdict bytes (BadScript number) replies = (script_of bytes ≡ Err number) × (replies ≡ [])
-IsVerdict bytes NoMemory [] = Unit {0}
-IsVerdict bytes status replies = (script : Reading) × (script_of bytes ≡ Ok script) × IsAnswer script status replies
+abbrev pub IsOutcomeOfBytes : List ℕ → Status → List Reply → Type 0
+IsOutcomeOfBytes bytes (BadScript number) replies = (script_of bytes ≡ Err number) × (replies ≡ [])
+IsOutcomeOfBytes bytes NoMemory [] = Unit {0}
+IsOutcomeOfBytes bytes status replies = (script : ParsedScript) × (script_of bytes ≡ Ok script) ×
+    IsOutcomeOfScript script status replies
 
 -- This status is due, with these replies: before anything is written.
 abbrev pub IsDue : List (List ℕ) → SourceState → SourceState → Status → List Reply → Type 0
 IsDue words before now Usage replies = (asks_for_run words ≡ false) × (now ≡ before) × (replies ≡ [])
 IsDue words before now ReadFault replies =
-    IsTrue (asks_for_run words) × ReadsSome before now × Rose before.faults now.faults × (replies ≡ [])
+    IsTrue (asks_for_run words) × FailsReading before now × (replies ≡ [])
 IsDue words before now TooLong replies = IsTrue (asks_for_run words) × ReadsTooMany before now × (replies ≡ [])
 IsDue words before now NoMemory [] = IsTrue (asks_for_run words) × ReadsSome before now
 IsDue words before now status replies =
-    IsTrue (asks_for_run words) × ((bytes : List ℕ) × ReadsAll before now bytes × IsVerdict bytes status replies)
+    IsTrue (asks_for_run words) × ((bytes : List ℕ) × ReadsAll before now bytes × IsOutcomeOfBytes bytes status replies)
 
 -- The text of the status that was due was put into the sink, and that status stays; or the sink failed within it.
 abbrev pub IsWritten : SinkState → SinkState → List ℕ → Status → Status → Type 0
@@ -118,11 +122,12 @@ IsWritten before now text due status = PutsAll before now text × (status ≡ du
 -- The program ended so: some status was due, and its text was written.
 abbrev pub EndsDue : List (List ℕ) → SourceState → SourceState → SinkState → SinkState → Status → List Reply → Type 0
 EndsDue words source_before source_now sink_before sink_now status replies =
-    (due : Status) × IsDue words source_before source_now due replies × IsWritten sink_before sink_now (status_text due replies) due status
+    (due : Status) × IsDue words source_before source_now due replies × IsWritten sink_before sink_now
+    (status_text due replies) due status
 
 -- ---- when each status comes, where the source tells its bytes
 
--- A status may come in place of the due one: a fault, where the count of faults rose, and want of memory.
+-- A status may come in place of the due one: a fault, where the count of faults rose, and out of memory.
 abbrev pub IsExcused : List (List ℕ) → List ℕ → SourceState → SourceState → SinkState → SinkState → Status → Type 0
 IsExcused words bytes source_before source_now sink_before sink_now ReadFault =
     IsTrue (asks_for_run words) × Rose source_before.faults source_now.faults
@@ -131,11 +136,11 @@ IsExcused words bytes source_before source_now sink_before sink_now NoMemory = I
 IsExcused words bytes source_before source_now sink_before sink_now status = ⊥
 
 -- The status is the due one, or it is excused.
-abbrev pub IsRight : List (List ℕ) → List ℕ → SourceState → SourceState → SinkState → SinkState → Status → Type 0
-IsRight words bytes source_before source_now sink_before sink_now status =
+abbrev pub IsDueOrExcused : List (List ℕ) → List ℕ → SourceState → SourceState → SinkState → SinkState → Status → Type 0
+IsDueOrExcused words bytes source_before source_now sink_before sink_now status =
     (status ≡ due_status words bytes) ⊎ IsExcused words bytes source_before source_now sink_before sink_now status
 
 -- The replies are a run of the script that the bytes are.
 abbrev pub AreRepliesTo : List ℕ → List Reply → Type 0
 AreRepliesTo bytes replies =
-    (script : Reading) × (script_of bytes ≡ Ok script) × IsRun script.settings script.commands replies
+    (script : ParsedScript) × (script_of bytes ≡ Ok script) × IsRun script.settings script.commands replies

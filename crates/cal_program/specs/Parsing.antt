@@ -4,9 +4,9 @@ use Rattle.std.specs.declared.alloc.Global.{Global}
 use Rattle.cal_transport.specs.declared.command.Command.{Command}
 use Rattle.cal_program.specs.declared.script.ParseError.{ParseError}
 use Rattle.cal_program.specs.declared.script.ParseError.TheVariants.{BadLine, NoMemory}
-use Rattle.cal_program.specs.Script.{Reading, script_of, commands_of}
+use Rattle.cal_program.specs.Script.{ParsedScript, script_of, commands_of}
 
-abbrev pub Parses : List ℕ → Result Reading ParseError → Type 0
+abbrev pub Parses : List ℕ → Result ParsedScript ParseError → Type 0
 Parses bytes (Ok script) = script_of bytes ≡ Ok script
 Parses bytes (Err (BadLine number)) = script_of bytes ≡ Err number
 Parses bytes (Err NoMemory) = Unit {0}

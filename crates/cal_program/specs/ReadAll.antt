@@ -1,6 +1,6 @@
 -- How the reading of a script ends.
-use Rattle.std.specs.Prelude.{ℕ, ◌<◌, ◌≤◌, List, length, Result, Ok, Err, Vec}
-use Rattle.std.specs.Io.KnownBytes.{IsAtEnd}
+use Rattle.std.specs.Prelude.{ℕ, ◌≡◌, ◌+◌, ◌≤◌, List, length, Result, Ok, Err, Vec}
+use Rattle.std.specs.Io.KnownBytes.{Consumes, IsAtEnd}
 use Rattle.std.specs.declared.alloc.Global.{Global}
 use Rattle.cal_program.specs.declared.read.ReadError.{ReadError}
 use Rattle.cal_program.specs.declared.read.ReadError.TheVariants.{Fault, TooLong, NoMemory}
@@ -16,17 +16,29 @@ pub record ReadsAll (before now : SourceState) (bytes : List ℕ) : Type 0 where
   pub ended : IsAtEnd now.left
   pub within : length bytes ≤ script_limit
 
--- Some bytes were taken.
-abbrev pub ReadsSome : SourceState → SourceState → Type 0
-ReadsSome before now = (bytes : List ℕ) × Takes before now bytes
+-- Some bytes were taken, at most one more than a script has.
+pub record ReadsSome (before now : SourceState) : Type 0 where
+  pub bytes : List ℕ
+  pub taken : Takes before now bytes
+  pub within : length bytes ≤ script_limit + 1
 
--- More bytes were taken than a script has.
-abbrev pub ReadsTooMany : SourceState → SourceState → Type 0
-ReadsTooMany before now = (bytes : List ℕ) × Takes before now bytes × (script_limit < length bytes)
+-- Exactly one byte more was taken than a script has.
+pub record ReadsTooMany (before now : SourceState) : Type 0 where
+  pub bytes : List ℕ
+  pub taken : Takes before now bytes
+  pub past : length bytes ≡ script_limit + 1
+
+-- The source failed after some bytes, no more than a script has.
+pub record FailsReading (before now : SourceState) : Type 0 where
+  pub bytes : List ℕ
+  pub front : Consumes before.left now.left bytes
+  pub counted : now.given ≡ before.given + length bytes
+  pub within : length bytes ≤ script_limit
+  pub fault : Rose before.faults now.faults
 
 -- Reading ended so.
 abbrev pub EndsReading : SourceState → SourceState → Result (Vec ℕ Global) ReadError → Type 0
 EndsReading before now (Ok bytes) = ReadsAll before now bytes.items
-EndsReading before now (Err Fault) = ReadsSome before now × Rose before.faults now.faults
+EndsReading before now (Err Fault) = FailsReading before now
 EndsReading before now (Err TooLong) = ReadsTooMany before now
 EndsReading before now (Err NoMemory) = ReadsSome before now

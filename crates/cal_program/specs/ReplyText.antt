@@ -7,14 +7,15 @@ use Rattle.cal_transport.specs.declared.reply.Refusal.{Refusal}
 use Rattle.cal_transport.specs.declared.reply.Refusal.TheVariants.{BadLayout, ExceedsMaxSupportedAlignment, SizeTooLarge, OutOfMemory, MaxReallocationsReached, SizeOutOfRange, InternalError, NotLoaned, WriteAfterSend, OutsideChunk, OutsideConnection, AlreadyInTransit, ReceiveBufferFull, ReceiveWouldExceedMaxBorrowValue, NotBorrowed, RetrieveBufferFull}
 use Rattle.cal_transport.specs.declared.reply.Reply.{Reply}
 use Rattle.cal_transport.specs.declared.reply.Reply.TheVariants.{Loaned, Written, Sent, Received, Shown, Released, Reclaimed, Discarded, Counted, Refused, Transit}
-use Rattle.cal_program.specs.Spelling.{spaced, hex}
+use Rattle.cal_program.specs.Spelling.{spaced_words, hex}
 
 -- the chunk, and its segment and place with a colon between
 abbrev pub slot_text : Slot → List ℕ
 slot_text slot = decimal slot.chunk ++ codes " " ++ decimal slot.segment ++ codes ":" ++ decimal slot.place
 
 abbrev pub count_text : declared_count.Count → List ℕ
-count_text c = spaced (decimal c.active ∷ decimal c.mapped ∷ decimal c.current ∷ decimal c.size ∷ decimal c.buckets ∷ [])
+count_text c = spaced_words
+    (decimal c.active ∷ decimal c.mapped ∷ decimal c.current ∷ decimal c.size ∷ decimal c.buckets ∷ [])
 
 abbrev pub refusal_name : Refusal → List ℕ
 refusal_name BadLayout = codes "BadLayout"

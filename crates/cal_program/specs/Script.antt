@@ -30,29 +30,30 @@ small_number_of word = do
 
 -- the ten words after `transport`
 abbrev pub settings_of_words : List (List ℕ) → Option Settings
-settings_of_words (size ∷ alignment ∷ count ∷ strategy ∷ buffer ∷ borrow ∷ overflow ∷ samples ∷ segments ∷ channels ∷ []) = do
-  size ← number_of size
-  alignment ← number_of alignment
-  count ← number_of count
-  strategy ← strategy_of strategy
-  buffer ← number_of buffer
-  borrow ← number_of borrow
-  overflow ← switch_of overflow
-  samples ← number_of samples
-  segments ← small_number_of segments
-  channels ← number_of channels
-  Some (record {
-    size = size;
-    alignment = alignment;
-    count = count;
-    strategy = strategy;
-    buffer = buffer;
-    borrow = borrow;
-    overflow = overflow;
-    samples = samples;
-    segments = segments;
-    channels = channels;
-  })
+settings_of_words (size ∷ alignment ∷ count ∷ strategy ∷ buffer ∷ borrow ∷ overflow ∷ samples ∷ segments ∷ channels ∷
+    []) = do
+      size ← number_of size
+      alignment ← number_of alignment
+      count ← number_of count
+      strategy ← strategy_of strategy
+      buffer ← number_of buffer
+      borrow ← number_of borrow
+      overflow ← switch_of overflow
+      samples ← number_of samples
+      segments ← small_number_of segments
+      channels ← number_of channels
+      Some (record {
+        size = size;
+        alignment = alignment;
+        count = count;
+        strategy = strategy;
+        buffer = buffer;
+        borrow = borrow;
+        overflow = overflow;
+        samples = samples;
+        segments = segments;
+        channels = channels;
+      })
 settings_of_words others = None
 
 abbrev pub settings_named : List (List ℕ) → Option Settings
@@ -149,7 +150,7 @@ command_of line = command_of_words (words line)
 -- ---- scripts
 
 -- what a script says
-pub record Reading : Type 0 where
+pub record ParsedScript : Type 0 where
   pub settings : Settings
   pub commands : List Command
 
@@ -169,15 +170,15 @@ commands_of number [] = Ok []
 commands_of number (line ∷ others) = command_at number (command_of line) (commands_of (number + 1) others)
 
 -- settings and commands, unless a line is bad
-abbrev pub reading_of : Option Settings → Result (List Command) ℕ → Result Reading ℕ
-reading_of None commands = Err 1
-reading_of (Some settings) (Ok commands) = Ok (record { settings = settings; commands = commands })
-reading_of (Some settings) (Err line) = Err line
+abbrev pub script_of_parts : Option Settings → Result (List Command) ℕ → Result ParsedScript ℕ
+script_of_parts None commands = Err 1
+script_of_parts (Some settings) (Ok commands) = Ok (record { settings = settings; commands = commands })
+script_of_parts (Some settings) (Err line) = Err line
 
-abbrev pub script_of_lines : List (List ℕ) → Result Reading ℕ
+abbrev pub script_of_lines : List (List ℕ) → Result ParsedScript ℕ
 script_of_lines [] = Err 1
-script_of_lines (first ∷ others) = reading_of (settings_of first) (commands_of 2 others)
+script_of_lines (first ∷ others) = script_of_parts (settings_of first) (commands_of 2 others)
 
 -- what the bytes say as a script; or the number of the first bad line, from 1
-abbrev pub script_of : List ℕ → Result Reading ℕ
+abbrev pub script_of : List ℕ → Result ParsedScript ℕ
 script_of bytes = script_of_lines (lines bytes)

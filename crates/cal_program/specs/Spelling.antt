@@ -25,8 +25,8 @@ hex (byte ∷ bytes) = flat_map hex_pair (byte ∷ bytes)
 -- ---- lines
 
 -- words, one space apart
-abbrev pub spaced : List (List ℕ) → List ℕ
-spaced = join_with_byte 32
+abbrev pub spaced_words : List (List ℕ) → List ℕ
+spaced_words = join_with_byte 32
 
 abbrev pub strategy_word : AllocationStrategy → List ℕ
 strategy_word BestFit = codes "best"
@@ -39,19 +39,22 @@ switch_word false = codes "off"
 
 -- the settings line
 abbrev pub settings_line : Settings → List ℕ
-settings_line s = spaced (codes "transport" ∷ decimal s.size ∷ decimal s.alignment ∷ decimal s.count ∷ strategy_word s.strategy
-    ∷ decimal s.buffer ∷ decimal s.borrow ∷ switch_word s.overflow ∷ decimal s.samples ∷ decimal s.segments ∷ decimal s.channels ∷ [])
+settings_line s = spaced_words
+    (codes "transport" ∷ decimal s.size ∷ decimal s.alignment ∷ decimal s.count ∷ strategy_word s.strategy
+    ∷ decimal s.buffer ∷ decimal s.borrow ∷ switch_word s.overflow ∷ decimal s.samples ∷ decimal s.segments ∷ decimal
+    s.channels ∷ [])
 
 -- the command line
 abbrev pub command_line : Command → List ℕ
-command_line (Loan size alignment) = spaced (codes "loan" ∷ decimal size ∷ decimal alignment ∷ [])
-command_line (Write chunk at bytes) = spaced (codes "write" ∷ decimal chunk ∷ decimal at ∷ hex bytes ∷ [])
-command_line (Send channel chunk) = spaced (codes "send" ∷ decimal channel ∷ decimal chunk ∷ [])
-command_line (Receive channel) = spaced (codes "receive" ∷ decimal channel ∷ [])
-command_line (Read channel chunk at length) = spaced (codes "read" ∷ decimal channel ∷ decimal chunk ∷ decimal at ∷ decimal length ∷ [])
-command_line (Release channel chunk) = spaced (codes "release" ∷ decimal channel ∷ decimal chunk ∷ [])
-command_line (Reclaim channel) = spaced (codes "reclaim" ∷ decimal channel ∷ [])
-command_line (Discard chunk) = spaced (codes "discard" ∷ decimal chunk ∷ [])
+command_line (Loan size alignment) = spaced_words (codes "loan" ∷ decimal size ∷ decimal alignment ∷ [])
+command_line (Write chunk at bytes) = spaced_words (codes "write" ∷ decimal chunk ∷ decimal at ∷ hex bytes ∷ [])
+command_line (Send channel chunk) = spaced_words (codes "send" ∷ decimal channel ∷ decimal chunk ∷ [])
+command_line (Receive channel) = spaced_words (codes "receive" ∷ decimal channel ∷ [])
+command_line (Read channel chunk at length) =
+    spaced_words (codes "read" ∷ decimal channel ∷ decimal chunk ∷ decimal at ∷ decimal length ∷ [])
+command_line (Release channel chunk) = spaced_words (codes "release" ∷ decimal channel ∷ decimal chunk ∷ [])
+command_line (Reclaim channel) = spaced_words (codes "reclaim" ∷ decimal channel ∷ [])
+command_line (Discard chunk) = spaced_words (codes "discard" ∷ decimal chunk ∷ [])
 command_line Count = codes "count"
 
 -- ---- what has a spelling: numbers of 64 bits and bytes of 8, as every value that the program holds
@@ -60,7 +63,8 @@ abbrev pub IsWord : ℕ → Type 0
 IsWord n = n < 2 ^ 64
 
 abbrev pub HasSettingsSpelling : Settings → Type 0
-HasSettingsSpelling s = IsWord s.size × IsWord s.alignment × IsWord s.count × IsWord s.buffer × IsWord s.borrow × IsWord s.samples
+HasSettingsSpelling s = IsWord s.size × IsWord s.alignment × IsWord s.count × IsWord s.buffer × IsWord s.borrow ×
+    IsWord s.samples
     × (s.segments < 2 ^ 8) × IsWord s.channels
 
 abbrev pub HasSpelling : Command → Type 0

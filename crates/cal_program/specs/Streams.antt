@@ -16,18 +16,17 @@ pub record SourceState : Type 0 where
   pub given : ℕ
   pub faults : ℕ
 
--- these bytes were taken from the front of what is left
+-- these bytes were taken from the front of what is left, and no call failed
 pub record Takes (before now : SourceState) (bytes : List ℕ) : Type 0 where
   pub front : Consumes before.left now.left bytes
   pub counted : now.given ≡ before.given + length bytes
-  pub faults_stay : before.faults ≤ now.faults
+  pub no_fault : now.faults ≡ before.faults
 
 -- a call failed: it took nothing
 pub record TakesNothing (before now : SourceState) : Type 0 where
   pub kept : Keeps before.left now.left
   pub counted : now.given ≡ before.given
   pub fault : Rose before.faults now.faults
-  pub faults_stay : before.faults ≤ now.faults
 
 -- ---- sinks
 
@@ -36,16 +35,19 @@ pub record SinkState : Type 0 where
   pub written : Option (List ℕ)
   pub faults : ℕ
 
--- these bytes were put at the end
+-- these bytes were put at the end, and no call failed
 pub record Puts (before now : SinkState) (bytes : List ℕ) : Type 0 where
   pub appended : Appends before.written now.written bytes
-  pub faults_stay : before.faults ≤ now.faults
+  pub no_fault : now.faults ≡ before.faults
+
+-- known bytes grow by a front of these bytes
+abbrev pub AppendsFront : Option (List ℕ) → Option (List ℕ) → List ℕ → Type 0
+AppendsFront before now bytes = (count : ℕ) × (count ≤ length bytes) × Appends before now (take count bytes)
 
 -- a call failed: a front of these bytes was put at the end
 pub record PutsFront (before now : SinkState) (bytes : List ℕ) : Type 0 where
-  pub appended : (count : ℕ) × (count ≤ length bytes) × Appends before.written now.written (take count bytes)
+  pub appended : AppendsFront before.written now.written bytes
   pub fault : Rose before.faults now.faults
-  pub faults_stay : before.faults ≤ now.faults
 
 -- All of a text was put. Where there is none, the sink was left alone.
 pub record PutsAll (before now : SinkState) (text : List ℕ) : Type 0 where
@@ -57,17 +59,20 @@ pub record FailsWithin (before now : SinkState) (text : List ℕ) : Type 0 where
   pub some : 0 < length text
   pub puts : PutsFront before now text
 
--- ---- streams in memory, of which each call is numbered from 0, and some are to fail
+-- ---- a reader and a writer as a source and a sink
 
-pub record MemorySourceState : Type 0 where
-  pub state : SourceState
-  pub calls : ℕ
-  pub failing : List ℕ
+-- the reader, how many bytes it gave so far, and how many calls failed
+pub record ReaderState (R : Type 0) : Type 0 where
+  pub reader : R
+  pub given : ℕ
+  pub faults : ℕ
 
-pub record MemorySinkState : Type 0 where
-  pub state : SinkState
-  pub calls : ℕ
-  pub failing : List ℕ
+-- the writer, and how many calls failed
+pub record WriterState (W : Type 0) : Type 0 where
+  pub writer : W
+  pub faults : ℕ
+
+-- ---- new streams
 
 -- a source that gave nothing yet
 abbrev pub new_source : Option (List ℕ) → SourceState

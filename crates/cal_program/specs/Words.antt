@@ -25,6 +25,12 @@ lines = pieces 10 []
 abbrev pub words : List ℕ → List (List ℕ)
 words = pieces 32 ([] ∷ [])
 
+-- the text is the one word
+abbrev pub is_only_word : List ℕ → List (List ℕ) → Bool
+is_only_word text [] = false
+is_only_word text (word ∷ []) = bytes_eq word text
+is_only_word text (word ∷ next ∷ words) = false
+
 -- ---- numbers
 
 -- a zero begins no longer number
@@ -36,7 +42,8 @@ begins_well (digit ∷ next ∷ digits) = not (digit == 48)
 -- the number that a word stands for
 abbrev pub number_of : List ℕ → Option ℕ
 number_of word =
-    if begins_well word && all_ascii_digits word && nat_lt (digits_value 10 word) (2 ^ 64) then Some (digits_value 10 word) else None
+    if begins_well word && all_ascii_digits word && nat_lt (digits_value 10 word) (2 ^ 64) then Some
+    (digits_value 10 word) else None
 
 -- a number up to a limit
 abbrev pub at_most : ℕ → ℕ → Option ℕ
@@ -74,4 +81,5 @@ bytes_of_letters (high ∷ low ∷ letters) = do
 -- the bytes that a word stands for: a dash stands for none
 abbrev pub bytes_of : List ℕ → Option (List ℕ)
 bytes_of [] = None
-bytes_of (letter ∷ letters) = if bytes_eq (letter ∷ letters) (codes "-") then Some [] else bytes_of_letters (letter ∷ letters)
+bytes_of (letter ∷ letters) = if bytes_eq (letter ∷ letters) (codes "-") then Some []
+    else bytes_of_letters (letter ∷ letters)

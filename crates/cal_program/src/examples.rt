@@ -62,7 +62,8 @@ pub fn slots_have_text()
 
 /// The lines of the first example, spelled from what they say.
 pub fn a_script_is_spelled()
-    ensures { one_chunk ≡ join_with_byte 10 (settings_line small_settings ∷ map command_line one_chunk_commands) }
+    ensures spelled { one_chunk ≡
+        join_with_byte 10 (settings_line small_settings ∷ map command_line one_chunk_commands) }
 {}
 
 /// Lines of replies.
@@ -71,5 +72,6 @@ pub fn replies_have_lines()
     ensures shown { reply_text (Reply.Shown (123 ∷ 0 ∷ [])) ≡ codes "bytes 7b00" }
     ensures shown_none { reply_text (Reply.Shown []) ≡ codes "bytes -" }
     ensures refused { reply_text (Reply.Refused Refusal.NotLoaned) ≡ codes "refused NotLoaned" }
-    ensures lines { reply_lines (Reply.Written ∷ Reply.Discarded ∷ []) ≡ line (codes "written") ++ line (codes "discarded") }
+    ensures lines { reply_lines (Reply.Written ∷ Reply.Discarded ∷ []) ≡
+        line (codes "written") ++ line (codes "discarded") }
 {}

@@ -8,20 +8,22 @@ use cal_transport::{Command, Settings};
 
 /// A line that is read as a command is the command's one spelling.
 pub fn a_command_has_one_spelling()
-    ensures { (line : List ℕ) (command : Command) → command_of line ≡ Some command → line ≡ command_line command }
+    ensures law { (line : List ℕ) (command : Command) → command_of line ≡ Some command → line ≡ command_line command }
 {}
 
 /// A command's spelling is read as the command.
 pub fn a_command_is_read_again()
-    ensures { (command : Command) → HasSpelling command → command_of (command_line command) ≡ Some command }
+    ensures law { (command : Command) → HasSpelling command → command_of (command_line command) ≡ Some command }
 {}
 
 /// A line that is read as settings is the settings' one spelling.
 pub fn settings_have_one_spelling()
-    ensures { (line : List ℕ) (settings : Settings) → settings_of line ≡ Some settings → line ≡ settings_line settings }
+    ensures law { (line : List ℕ) (settings : Settings) → settings_of line ≡ Some settings →
+        line ≡ settings_line settings }
 {}
 
 /// The spelling of settings is read as the settings.
 pub fn settings_are_read_again()
-    ensures { (settings : Settings) → HasSettingsSpelling settings → settings_of (settings_line settings) ≡ Some settings }
+    ensures law { (settings : Settings) → HasSettingsSpelling settings →
+        settings_of (settings_line settings) ≡ Some settings }
 {}

@@ -2,12 +2,13 @@
 //! commands to standard output.
 #![tactic(auto)]
 
-mod clean;
+ghost use Rattle.std.specs.Prelude.{◌≡◌, map, string_bytes, option_map};
+ghost use Rattle.cal_program.specs.Information.{information_of};
+
 mod examples;
 mod help;
 mod laws;
-mod memory;
-mod page;
+mod output_buffer;
 mod print;
 mod read;
 mod run_program;
@@ -28,6 +29,7 @@ use std::process::ExitCode;
 use std::rt::Env;
 use std::{env, io};
 use std_streams::{StdSink, StdSource};
+use words::is_only_word;
 
 fn main(rt: HostRuntime) -> ExitCode {
     let words = match words_of(&rt) {
@@ -58,13 +60,15 @@ fn words_of<R: Env + AllocGlobal>(rt: &R) -> io::Result<Vec<String>> {
 }
 
 /// The text of the one word that asks for information.
-fn information(words: &[String]) -> Option<&'static str> {
-    if words.len() != 1 {
-        return None;
+fn information(words: &[String]) -> Option<&'static str>
+    ensures text { option_map (λ text. text.now) result ≡
+        information_of HELP.now VERSION.now (map string_bytes words.now) }
+{
+    if is_only_word(words, b"--help") {
+        return Some(HELP);
     }
-    match words[0].as_str() {
-        "--help" => Some(HELP),
-        "--version" => Some(VERSION),
-        _ => None,
+    if is_only_word(words, b"--version") {
+        return Some(VERSION);
     }
+    None
 }

@@ -6,122 +6,128 @@ ghost use Rattle.cal_program.specs.Streams.{PutsAll, FailsWithin};
 ghost use Rattle.cal_program.specs.ReplyText.{slot_text, count_text, refusal_name, reply_text, line, reply_lines};
 ghost use Rattle.cal_program.specs.Outcome.{cause_name, status_text};
 
-use crate::page::Page;
+use crate::output_buffer::OutputBuffer;
 use crate::sink::Sink;
 use crate::source::Failed;
 use crate::status::{Outcome, Status};
 use cal_transport::{Count, CreateCause, Refusal, Replies, Reply, Slot};
 
 /// Puts the text of an outcome, the replies of a run that is done included. It takes no memory, and calls the sink for
-/// each full page and at the end. It calls it no more once it failed.
+/// each full buffer and at the end. It calls it no more once it failed.
 pub fn print_outcome<S: Sink>(outcome: &Outcome, sink: &mut S) -> Result<(), Failed>
     ensures ok { OnOk result
         (PutsAll (S.state sink.old) (S.state sink.new) (status_text outcome.now.status outcome.now.replies.items)) }
     ensures failed { OnErr result
         (FailsWithin (S.state sink.old) (S.state sink.new) (status_text outcome.now.status outcome.now.replies.items)) }
 {
-    let mut page = Page::new();
-    print_status(&mut page, sink, outcome.status, &outcome.replies);
-    page.flush(sink);
-    if page.has_failed() {
+    let mut buffer = OutputBuffer::new();
+    print_status(&mut buffer, sink, outcome.status, &outcome.replies);
+    buffer.flush(sink);
+    if buffer.has_failed() {
         return Err(Failed);
     }
     Ok(())
 }
 
-fn print_status<S: Sink>(page: &mut Page, sink: &mut S, status: Status, replies: &Replies)
-    ensures { Follows page.old (S.state sink.old) page.new (S.state sink.new) (status_text status replies.now.items) }
+fn print_status<S: Sink>(
+    buffer: &mut OutputBuffer,
+    sink: &mut S,
+    status: Status,
+    replies: &Replies<Reply>,
+)
+    ensures { Follows buffer.old (S.state sink.old) buffer.new (S.state sink.new)
+        (status_text status replies.now.items) }
 {
     match status {
-        Status::Done => print_replies(page, sink, replies),
+        Status::Done => print_replies(buffer, sink, replies),
         Status::BadScript { line } => {
-            page.text(sink, b"line ");
-            page.number(sink, line);
-            page.text(sink, b"\n");
+            buffer.text(sink, b"line ");
+            buffer.number(sink, line);
+            buffer.text(sink, b"\n");
         }
         Status::NotCreated { cause } => {
-            page.text(sink, b"create ");
-            page.text(sink, cause_name(cause));
-            page.text(sink, b"\n");
+            buffer.text(sink, b"create ");
+            buffer.text(sink, cause_name(cause));
+            buffer.text(sink, b"\n");
         }
         Status::ReadFault | Status::WriteFault | Status::NoMemory => {}
-        Status::Usage => page.text(
+        Status::Usage => buffer.text(
             sink,
             b"usage: run, make NUMBER ROUNDS, relay BUFFER COUNT\n",
         ),
-        Status::TooLong => page.text(sink, b"too long\n"),
-        Status::NotBuilt => page.text(sink, b"not built\n"),
+        Status::TooLong => buffer.text(sink, b"too long\n"),
+        Status::NotBuilt => buffer.text(sink, b"not built\n"),
     }
 }
 
-fn print_replies<S: Sink>(page: &mut Page, sink: &mut S, replies: &Replies)
-    ensures { Follows page.old (S.state sink.old) page.new (S.state sink.new) (reply_lines replies.now.items) }
+fn print_replies<S: Sink>(buffer: &mut OutputBuffer, sink: &mut S, replies: &Replies<Reply>)
+    ensures { Follows buffer.old (S.state sink.old) buffer.new (S.state sink.new) (reply_lines replies.now.items) }
 {
     for place in 0..replies.len() {
         let reply = replies.get(place).unwrap();
-        print_reply(page, sink, reply);
-        page.text(sink, b"\n");
+        print_reply(buffer, sink, reply);
+        buffer.text(sink, b"\n");
     }
 }
 
-fn print_reply<S: Sink>(page: &mut Page, sink: &mut S, reply: &Reply)
-    ensures { Follows page.old (S.state sink.old) page.new (S.state sink.new) (reply_text reply.now) }
+fn print_reply<S: Sink>(buffer: &mut OutputBuffer, sink: &mut S, reply: &Reply)
+    ensures { Follows buffer.old (S.state sink.old) buffer.new (S.state sink.new) (reply_text reply.now) }
 {
     match reply {
-        Reply::Loaned(slot) => print_with_slot(page, sink, b"loaned ", slot),
-        Reply::Written => page.text(sink, b"written"),
-        Reply::Sent(None) => page.text(sink, b"sent"),
-        Reply::Sent(Some(slot)) => print_with_slot(page, sink, b"sent back ", slot),
-        Reply::Received(None) => page.text(sink, b"received none"),
-        Reply::Received(Some(slot)) => print_with_slot(page, sink, b"received ", slot),
+        Reply::Loaned(slot) => print_with_slot(buffer, sink, b"loaned ", slot),
+        Reply::Written => buffer.text(sink, b"written"),
+        Reply::Sent(None) => buffer.text(sink, b"sent"),
+        Reply::Sent(Some(slot)) => print_with_slot(buffer, sink, b"sent back ", slot),
+        Reply::Received(None) => buffer.text(sink, b"received none"),
+        Reply::Received(Some(slot)) => print_with_slot(buffer, sink, b"received ", slot),
         Reply::Shown(bytes) => {
-            page.text(sink, b"bytes ");
-            page.hex(sink, bytes.as_slice());
+            buffer.text(sink, b"bytes ");
+            buffer.hex(sink, bytes.as_slice());
         }
-        Reply::Released => page.text(sink, b"released"),
-        Reply::Reclaimed(None) => page.text(sink, b"reclaimed none"),
-        Reply::Reclaimed(Some(slot)) => print_with_slot(page, sink, b"reclaimed ", slot),
-        Reply::Discarded => page.text(sink, b"discarded"),
+        Reply::Released => buffer.text(sink, b"released"),
+        Reply::Reclaimed(None) => buffer.text(sink, b"reclaimed none"),
+        Reply::Reclaimed(Some(slot)) => print_with_slot(buffer, sink, b"reclaimed ", slot),
+        Reply::Discarded => buffer.text(sink, b"discarded"),
         Reply::Counted(count) => {
-            page.text(sink, b"counted ");
-            print_count(page, sink, count);
+            buffer.text(sink, b"counted ");
+            print_count(buffer, sink, count);
         }
         Reply::Refused(refusal) => {
-            page.text(sink, b"refused ");
-            page.text(sink, refusal_name(*refusal));
+            buffer.text(sink, b"refused ");
+            buffer.text(sink, refusal_name(*refusal));
         }
         Reply::Transit { channel, slot } => {
-            page.text(sink, b"transit ");
-            page.number(sink, *channel);
-            print_with_slot(page, sink, b" ", slot);
+            buffer.text(sink, b"transit ");
+            buffer.number(sink, *channel);
+            print_with_slot(buffer, sink, b" ", slot);
         }
     }
 }
 
 /// A word, and a slot: its chunk, and its segment and place with a colon between.
-fn print_with_slot<S: Sink>(page: &mut Page, sink: &mut S, word: &[u8], slot: &Slot)
-    ensures { Follows page.old (S.state sink.old) page.new (S.state sink.new) (word.now ++ slot_text slot.now) }
+fn print_with_slot<S: Sink>(buffer: &mut OutputBuffer, sink: &mut S, word: &[u8], slot: &Slot)
+    ensures { Follows buffer.old (S.state sink.old) buffer.new (S.state sink.new) (word.now ++ slot_text slot.now) }
 {
-    page.text(sink, word);
-    page.number(sink, slot.chunk);
-    page.text(sink, b" ");
-    page.number(sink, slot.segment as usize);
-    page.text(sink, b":");
-    page.number(sink, slot.place);
+    buffer.text(sink, word);
+    buffer.number(sink, slot.chunk);
+    buffer.text(sink, b" ");
+    buffer.number(sink, slot.segment as usize);
+    buffer.text(sink, b":");
+    buffer.number(sink, slot.place);
 }
 
-fn print_count<S: Sink>(page: &mut Page, sink: &mut S, count: &Count)
-    ensures { Follows page.old (S.state sink.old) page.new (S.state sink.new) (count_text count.now) }
+fn print_count<S: Sink>(buffer: &mut OutputBuffer, sink: &mut S, count: &Count)
+    ensures { Follows buffer.old (S.state sink.old) buffer.new (S.state sink.new) (count_text count.now) }
 {
-    page.number(sink, count.active);
-    page.text(sink, b" ");
-    page.number(sink, count.mapped);
-    page.text(sink, b" ");
-    page.number(sink, count.current as usize);
-    page.text(sink, b" ");
-    page.number(sink, count.size);
-    page.text(sink, b" ");
-    page.number(sink, count.buckets as usize);
+    buffer.number(sink, count.active);
+    buffer.text(sink, b" ");
+    buffer.number(sink, count.mapped);
+    buffer.text(sink, b" ");
+    buffer.number(sink, count.current as usize);
+    buffer.text(sink, b" ");
+    buffer.number(sink, count.size);
+    buffer.text(sink, b" ");
+    buffer.number(sink, count.buckets as usize);
 }
 
 fn refusal_name(refusal: Refusal) -> &'static [u8]

@@ -25,10 +25,10 @@ pub enum ReadError {
     NoMemory,
 }
 
-/// All bytes that the source has left, up to the limit. Reading stops at the first fault, and after the first byte past
-/// the limit.
+/// All bytes that the source has left, up to the limit. Reading stops at the first fault, and after the first byte
+/// past the limit.
 pub fn read_script<R: Source>(alloc: Global, source: &mut R) -> Result<Vec<u8>, ReadError>
-    ensures { EndsReading (R.state source.old) (R.state source.new) result }
+    ensures reading { EndsReading (R.state source.old) (R.state source.new) result }
 {
     let mut block = [0; BLOCK_SIZE];
     read_blocks(alloc, source, &mut block)

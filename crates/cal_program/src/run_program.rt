@@ -1,9 +1,9 @@
 //! A run of the program: what the words ask for, over a source and a sink.
 
-ghost use Rattle.std.specs.Prelude.{◌≡◌, ◌⊎◌, [], map, string_bytes, IfSome};
-ghost use Rattle.cal_program.specs.Outcome.{asks_for_run, IsAnswer, IsVerdict, IsDue, EndsDue, IsRight, due_status, AreRepliesTo};
+ghost use Rattle.std.specs.Prelude.{◌≡◌, [], map, string_bytes, IfSome};
+ghost use Rattle.cal_program.specs.Outcome.{IsOutcomeOfScript, IsOutcomeOfBytes, IsDue, EndsDue, IsDueOrExcused, AreRepliesTo};
 ghost use Rattle.cal_program.specs.ReplyText.{reply_lines};
-ghost use Rattle.cal_program.specs.Streams.{Rose, PutsAll};
+ghost use Rattle.cal_program.specs.Streams.{PutsAll};
 
 use crate::print::print_outcome;
 use crate::read::{ReadError, read_script};
@@ -11,7 +11,7 @@ use crate::script::{ParseError, Script};
 use crate::sink::Sink;
 use crate::source::Source;
 use crate::status::{Outcome, Status};
-use crate::words::is_text;
+use crate::words::is_only_word;
 use cal_transport::{Replies, RunError, run_transport};
 use std::alloc::Global;
 
@@ -27,24 +27,21 @@ pub fn run_program<R: Source, W: Sink>(
         (W.state sink.old) (W.state sink.new) result.status result.replies.items }
 
     // A run that is done wrote the text of its replies, and they are a run of the ledger.
-    ensures done { result.status ≡ Status.Done → IfSome (R.state source.old).left (λ bytes. AreRepliesTo bytes result.replies.items) }
-    ensures written { result.status ≡ Status.Done → PutsAll (W.state sink.old) (W.state sink.new) (reply_lines result.replies.items) }
+    ensures done { result.status ≡ Status.Done →
+        IfSome (R.state source.old).left (λ bytes. AreRepliesTo bytes result.replies.items) }
+    ensures written { result.status ≡ Status.Done →
+        PutsAll (W.state sink.old) (W.state sink.new) (reply_lines result.replies.items) }
 
-    // Each status comes exactly where it is due, but for faults and want of memory.
-    ensures exact { IfSome (R.state source.old).left (λ bytes. IsRight (map string_bytes words.now) bytes
+    // Each status comes exactly where it is due, but for faults and out of memory. So a valid script that is served is
+    // done, unless memory runs out or the source or the sink fails.
+    ensures exact { IfSome (R.state source.old).left (λ bytes. IsDueOrExcused (map string_bytes words.now) bytes
         (R.state source.old) (R.state source.new) (W.state sink.old) (W.state sink.new) result.status) }
-
-    // A valid script is done, unless memory runs out or the source or the sink fails.
-    ensures complete { IfSome (R.state source.old).left (λ bytes. due_status (map string_bytes words.now) bytes ≡ Status.Done
-        → ¬ Rose (R.state source.old).faults (R.state source.new).faults
-        → ¬ Rose (W.state sink.old).faults (W.state sink.new).faults
-        → (result.status ≡ Status.Done) ⊎ (result.status ≡ Status.NoMemory)) }
 {
-    ended(alloc, words, source, sink)
+    run_and_print(alloc, words, source, sink)
 }
 
 /// The same, by what is due and written.
-fn ended<R: Source, W: Sink>(
+fn run_and_print<R: Source, W: Sink>(
     alloc: Global,
     words: &[String],
     source: &mut R,
@@ -65,43 +62,34 @@ fn ended<R: Source, W: Sink>(
 
 /// What is due to be written.
 fn due_outcome<R: Source>(alloc: Global, words: &[String], source: &mut R) -> Outcome
-    ensures { IsDue (map string_bytes words.now) (R.state source.old) (R.state source.new) result.status result.replies.items }
+    ensures { IsDue (map string_bytes words.now) (R.state source.old) (R.state source.new)
+        result.status result.replies.items }
 {
-    if !asks_for_run(words) {
+    if !is_only_word(words, b"run") {
         return without_replies(alloc, Status::Usage);
     }
     match read_script(alloc, source) {
-        Ok(bytes) => verdict(alloc, bytes.as_slice()),
+        Ok(bytes) => outcome_of_bytes(alloc, bytes.as_slice()),
         Err(ReadError::Fault) => without_replies(alloc, Status::ReadFault),
         Err(ReadError::TooLong) => without_replies(alloc, Status::TooLong),
         Err(ReadError::NoMemory) => without_replies(alloc, Status::NoMemory),
     }
 }
 
-/// Whether the words are the one word `run`.
-fn asks_for_run(words: &[String]) -> bool
-    ensures { result ≡ asks_for_run (map string_bytes words.now) }
-{
-    if words.len() != 1 {
-        return false;
-    }
-    is_text(words[0].as_bytes(), b"run")
-}
-
 /// What is due for these bytes.
-fn verdict(alloc: Global, bytes: &[u8]) -> Outcome
-    ensures { IsVerdict bytes.now result.status result.replies.items }
+fn outcome_of_bytes(alloc: Global, bytes: &[u8]) -> Outcome
+    ensures { IsOutcomeOfBytes bytes.now result.status result.replies.items }
 {
     match Script::parse(alloc, bytes) {
-        Ok(script) => answer(alloc, &script),
+        Ok(script) => outcome_of_script(alloc, &script),
         Err(ParseError::BadLine { line }) => without_replies(alloc, Status::BadScript { line }),
         Err(ParseError::NoMemory) => without_replies(alloc, Status::NoMemory),
     }
 }
 
 /// What is due for a script.
-fn answer(alloc: Global, script: &Script) -> Outcome
-    ensures { IsAnswer script.now result.status result.replies.items }
+fn outcome_of_script(alloc: Global, script: &Script) -> Outcome
+    ensures { IsOutcomeOfScript script.now result.status result.replies.items }
 {
     match run_transport(alloc, script.settings(), script.commands()) {
         Ok(replies) => Outcome {

@@ -14,14 +14,16 @@ use std::marker::Model;
 /// What a script says.
 #[derive(Debug, Drop)]
 pub struct Script {
+    /// The first line.
     settings: Settings,
+    /// The further lines, in order.
     commands: Vec<Command>,
 }
 
 impl Model for Script {
-    ghost use Rattle.cal_program.specs.Script.{Reading};
+    ghost use Rattle.cal_program.specs.Script.{ParsedScript};
 
-    ghost Value = { Reading };
+    ghost Value = { ParsedScript };
 
     ghost view = { λ s. record { settings = s.settings; commands = s.commands.items } };
 }
@@ -38,7 +40,7 @@ pub enum ParseError {
 impl Script {
     /// What these bytes say as a script.
     pub fn parse(alloc: Global, bytes: &[u8]) -> Result<Script, ParseError>
-        ensures { Parses bytes.now result }
+        ensures parsed { Parses bytes.now result }
     {
         let mut lines = Lines { rest: bytes };
         let Some(first) = lines.next_line() else {
@@ -55,14 +57,14 @@ impl Script {
 
     /// The settings, which are the first line.
     pub fn settings(&self) -> &Settings
-        ensures { result.now ≡ self.now.settings }
+        ensures value { result.now ≡ self.now.settings }
     {
         &self.settings
     }
 
     /// The commands, in the order of their lines.
     pub fn commands(&self) -> &[Command]
-        ensures { result.now ≡ self.now.commands }
+        ensures value { result.now ≡ self.now.commands }
     {
         self.commands.as_slice()
     }
@@ -71,6 +73,7 @@ impl Script {
 /// The lines that are left.
 #[derive(Drop)]
 struct Lines<'a> {
+    /// The bytes from the next line on.
     rest: &'a [u8],
 }
 
@@ -127,9 +130,7 @@ fn settings_of_words(words: &mut Words<'_>) -> Option<Settings>
     let samples = words.next_word()?;
     let segments = words.next_word()?;
     let channels = words.next_word()?;
-    if words.next_word().is_some() {
-        return None;
-    }
+    words.end()?;
     Some(Settings {
         size: number(size)?,
         alignment: number(alignment)?,
@@ -246,9 +247,7 @@ fn loan(words: &mut Words<'_>) -> Option<Command>
 {
     let size = words.next_word()?;
     let alignment = words.next_word()?;
-    if words.next_word().is_some() {
-        return None;
-    }
+    words.end()?;
     Some(Command::Loan {
         size: number(size)?,
         alignment: number(alignment)?,
@@ -291,9 +290,7 @@ fn send(words: &mut Words<'_>) -> Option<Command>
 {
     let channel = words.next_word()?;
     let chunk = words.next_word()?;
-    if words.next_word().is_some() {
-        return None;
-    }
+    words.end()?;
     Some(Command::Send {
         channel: number(channel)?,
         chunk: number(chunk)?,
@@ -304,9 +301,7 @@ fn receive(words: &mut Words<'_>) -> Option<Command>
     ensures { result ≡ receive_of words.old }
 {
     let channel = words.next_word()?;
-    if words.next_word().is_some() {
-        return None;
-    }
+    words.end()?;
     Some(Command::Receive {
         channel: number(channel)?,
     })
@@ -319,9 +314,7 @@ fn read(words: &mut Words<'_>) -> Option<Command>
     let chunk = words.next_word()?;
     let at = words.next_word()?;
     let length = words.next_word()?;
-    if words.next_word().is_some() {
-        return None;
-    }
+    words.end()?;
     Some(Command::Read {
         channel: number(channel)?,
         chunk: number(chunk)?,
@@ -335,9 +328,7 @@ fn release(words: &mut Words<'_>) -> Option<Command>
 {
     let channel = words.next_word()?;
     let chunk = words.next_word()?;
-    if words.next_word().is_some() {
-        return None;
-    }
+    words.end()?;
     Some(Command::Release {
         channel: number(channel)?,
         chunk: number(chunk)?,
@@ -348,9 +339,7 @@ fn reclaim(words: &mut Words<'_>) -> Option<Command>
     ensures { result ≡ reclaim_of words.old }
 {
     let channel = words.next_word()?;
-    if words.next_word().is_some() {
-        return None;
-    }
+    words.end()?;
     Some(Command::Reclaim {
         channel: number(channel)?,
     })
@@ -360,9 +349,7 @@ fn discard(words: &mut Words<'_>) -> Option<Command>
     ensures { result ≡ discard_of words.old }
 {
     let chunk = words.next_word()?;
-    if words.next_word().is_some() {
-        return None;
-    }
+    words.end()?;
     Some(Command::Discard {
         chunk: number(chunk)?,
     })
@@ -371,8 +358,6 @@ fn discard(words: &mut Words<'_>) -> Option<Command>
 fn count(words: &mut Words<'_>) -> Option<Command>
     ensures { result ≡ count_of words.old }
 {
-    if words.next_word().is_some() {
-        return None;
-    }
+    words.end()?;
     Some(Command::Count)
 }

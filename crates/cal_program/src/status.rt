@@ -3,7 +3,7 @@
 ghost use Rattle.std.specs.Prelude.{◌≡◌};
 ghost use Rattle.cal_program.specs.Outcome.{status_code};
 
-use cal_transport::{CreateCause, Replies};
+use cal_transport::{CreateCause, Replies, Reply};
 
 /// How a run of the program ended.
 #[derive(Clone, Copy, Debug, PartialEq, Eq)]
@@ -31,7 +31,7 @@ pub enum Status {
 impl Status {
     /// The exit status.
     pub fn code(self) -> u8
-        ensures { result ≡ status_code self }
+        ensures value { result ≡ status_code self }
     {
         match self {
             Status::Done => 0,
@@ -50,8 +50,9 @@ impl Status {
 /// What a run of the program leaves.
 #[derive(Debug, Drop)]
 pub struct Outcome {
+    /// How it ended.
     pub status: Status,
-    /// The replies of the whole run, where that is done or its replies were due to be written; the replies before memory
-    /// ran out; else none.
-    pub replies: Replies,
+    /// The replies of the whole run, where that is done or its replies were due to be written; the replies before
+    /// memory ran out; else none.
+    pub replies: Replies<Reply>,
 }

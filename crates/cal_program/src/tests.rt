@@ -4,18 +4,19 @@ ghost use Rattle.std.specs.Prelude.{◌≡◌, ◌<◌, ◌≤◌, length, take,
 ghost use Rattle.std.specs.Io.KnownBytes.{IsAtEnd};
 ghost use Rattle.cal_program.specs.Streams.{Takes, TakesNothing};
 
+mod clean;
+mod many;
+mod memory;
+mod streams;
 mod worked_examples;
 
-use crate::memory::{MemorySink, MemorySource};
 use crate::read::SCRIPT_LIMIT;
 use crate::run_program::run_program;
-use crate::sink::Sink;
 use crate::source::{Failed, Source};
 use crate::status::Status;
-use crate::std_streams::{StdSink, StdSource};
+use crate::tests::memory::{MemorySink, MemorySource};
 use cal_transport::CreateCause;
 use std::alloc::{AllocError, Global};
-use std::io;
 use std::process::Abort;
 use std::test::Fail;
 
@@ -29,7 +30,8 @@ const ONE_CHUNK_LINES: &[u8] =
 
 /// Each command that is served, in a script whose chunk comes back.
 const EACH_COMMAND: &[u8] =
-    b"transport 8 8 1 static 1 1 off 1 1 1\nloan 8 8\nwrite 1 0 7b00\nsend 0 1\nreceive 0\nread 0 1 0 2\nrelease 0 1\nreclaim 0\ndiscard 1\n";
+    b"transport 8 8 1 static 1 1 off 1 1 1\nloan 8 8\nwrite 1 0 7b00\nsend 0 1\nreceive 0\nread 0 1 0 2\n\
+      release 0 1\nreclaim 0\ndiscard 1\n";
 
 /// The replies to it, if it is whole.
 const EACH_REPLY: &[u8] =
@@ -236,41 +238,5 @@ fn long_scripts(rt: HostRuntime) -> Result<(), Fail> {
         Status::BadScript { line: 1 },
         b"line 1\n",
     )?;
-    Ok(())
-}
-
-/// A reader and a writer that fail.
-#[derive(Drop)]
-struct Broken;
-
-impl io::Read for Broken {
-    fn read(&mut self, _buf: &mut [u8]) -> io::Result<usize> {
-        Err(io::Error::from(io::ErrorKind::Other))
-    }
-}
-
-impl io::Write for Broken {
-    fn write(&mut self, _buf: &[u8]) -> io::Result<usize> {
-        Ok(0)
-    }
-
-    fn flush(&mut self) -> io::Result<()> {
-        Ok(())
-    }
-}
-
-#[test]
-fn standard_streams(rt: HostRuntime) -> Result<(), Fail> {
-    let mut block = [0; 4];
-    let mut source = StdSource::new(b"abc".as_slice());
-    assert_eq!(rt; source.take(&mut block), Ok(3));
-    assert_eq!(rt; block.as_slice(), b"abc\0".as_slice());
-    assert_eq!(rt; source.take(&mut block), Ok(0));
-    assert_eq!(rt; StdSource::new(Broken).take(&mut block), Err(Failed));
-
-    let mut bytes = Vec::new(rt.alloc());
-    assert_eq!(rt; StdSink::new(&mut bytes).put(b"abc"), Ok(()));
-    assert_eq!(rt; bytes.as_slice(), b"abc".as_slice());
-    assert_eq!(rt; StdSink::new(Broken).put(b"abc"), Err(Failed));
     Ok(())
 }

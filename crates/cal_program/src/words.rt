@@ -1,7 +1,7 @@
 //! Lines and words of a script, and the numbers and bytes that words stand for.
 
-ghost use Rattle.std.specs.Prelude.{◌≡◌, ◌≢◌, ◌<◌, ◌≤◌, ℕ, [], ◌∷◌, length, slice_index, MatchOption, IfSome, IfOk, option_map, bytes_eq};
-ghost use Rattle.cal_program.specs.Words.{words, number_of, begins_well, hex_value, byte_of, bytes_of, bytes_of_letters};
+ghost use Rattle.std.specs.Prelude.{◌≡◌, ◌≢◌, ◌<◌, ◌≤◌, ℕ, List, [], ◌∷◌, length, slice_index, MatchOption, IfSome, IfOk, option_map, bytes_eq, map, string_bytes};
+ghost use Rattle.cal_program.specs.Words.{words, is_only_word, number_of, begins_well, hex_value, byte_of, bytes_of, bytes_of_letters};
 
 use std::alloc::{AllocError, Global};
 use std::marker::Model;
@@ -9,6 +9,7 @@ use std::marker::Model;
 /// The words of a line that are left.
 #[derive(Drop)]
 pub struct Words<'a> {
+    /// The bytes from the next word on; none where the last word was taken.
     rest: Option<&'a [u8]>,
 }
 
@@ -25,14 +26,14 @@ impl<'a> Model for Words<'a> {
 impl<'a> Words<'a> {
     /// All words of a line.
     pub fn of(line: &'a [u8]) -> Words<'a>
-        ensures { result ≡ words line.now }
+        ensures words { result ≡ words line.now }
     {
         Words { rest: Some(line) }
     }
 
     /// The next word, if there is one.
     pub fn next_word(&mut self) -> Option<&'a [u8]>
-        ensures { MatchOption result ((self.old ≡ []) × (self.new ≡ [])) (λ word. self.old ≡ word.now ∷ self.new) }
+        ensures next { MatchOption result ((self.old ≡ []) × (self.new ≡ [])) (λ word. self.old ≡ word.now ∷ self.new) }
     {
         let bytes = self.rest?;
         let place = place_of(bytes, b' ');
@@ -43,6 +44,17 @@ impl<'a> Words<'a> {
         self.rest = Some(&bytes[place + 1..]);
         Some(&bytes[..place])
     }
+
+    /// Nothing where a word is left: a form has exactly as many words as were taken.
+    pub fn end(&mut self) -> Option<()>
+        ensures end { MatchOption result
+            ((word : List ℕ) × ((others : List (List ℕ)) × (self.old ≡ word ∷ others))) (λ _. self.old ≡ []) }
+    {
+        match self.next_word() {
+            Some(_) => None,
+            None => Some(()),
+        }
+    }
 }
 
 /// The place of the first separator, or the number of bytes where there is none.
@@ -51,24 +63,32 @@ pub fn place_of(bytes: &[u8], separator: u8) -> usize
     ensures before { (k : ℕ) → k < result → slice_index bytes.now k ≢ separator }
     ensures found { result < length bytes.now → slice_index bytes.now result ≡ separator }
 {
-    for (place, byte) in bytes.iter().enumerate() {
-        if *byte == separator {
-            return place;
-        }
-    }
-    bytes.len()
+    bytes
+        .iter()
+        .position(|byte| *byte == separator)
+        .unwrap_or(bytes.len())
 }
 
 /// Whether a word is this text.
 pub fn is_text(word: &[u8], text: &[u8]) -> bool
-    ensures { result ≡ bytes_eq word.now text.now }
+    ensures value { result ≡ bytes_eq word.now text.now }
 {
     word == text
 }
 
+/// Whether a text is the one word of a command line.
+pub fn is_only_word(words: &[String], text: &[u8]) -> bool
+    ensures value { result ≡ is_only_word text.now (map string_bytes words.now) }
+{
+    if words.len() != 1 {
+        return false;
+    }
+    is_text(words[0].as_bytes(), text)
+}
+
 /// The number that a word stands for.
 pub fn number(word: &[u8]) -> Option<usize>
-    ensures { result ≡ number_of word.now }
+    ensures value { result ≡ number_of word.now }
 {
     if !begins_well(word) {
         return None;
@@ -96,7 +116,7 @@ fn begins_well(word: &[u8]) -> bool
 
 /// The bytes that a word stands for.
 pub fn bytes(alloc: Global, word: &[u8]) -> Result<Option<Vec<u8>>, AllocError>
-    ensures { IfOk result (λ found. option_map (λ bytes. bytes.items) found ≡ bytes_of word.now) }
+    ensures value { IfOk result (λ found. option_map (λ bytes. bytes.items) found ≡ bytes_of word.now) }
 {
     if word.is_empty() {
         return Ok(None);

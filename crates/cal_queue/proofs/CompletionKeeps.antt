@@ -1,53 +1,28 @@
 -- Each step of either end of a completion ring keeps the words and the passes fitting together, from any state in which
 -- they do.
-use Rattle.std.proofs.Common.{◌≡◌, ◌≢◌, ℕ, ◌+◌, ◌-◌, ◌%◌, ◌^◌, ◌<◌, ◌≤◌, List, [], ◌∷◌, ◌++◌, length, get_or, set, take, Option, Some, None, refl, sym, ap, ◌∙◌, subst, ⊎_elim, arith, length-append}
-use Rattle.std.proofs.lemmas.Bool.{cases_lt}
-use Rattle.std.proofs.lemmas.Nat.{mod_below}
-use Rattle.std.proofs.lemmas.List.{length-set, get_or-set_same, get_or-set_other, get_or_append_left, get_or_at, take-append-le, take_more}
+use Rattle.std.proofs.Common.{◌≡◌, ℕ, ◌+◌, ◌-◌, ◌^◌, ◌<◌, ◌≤◌, List, [], ◌∷◌, ◌++◌, length, get_or, set, take, Option, Some, None, refl, sym, ap, ◌∙◌, subst, arith, length-append}
+use Rattle.std.proofs.lemmas.List.{take-append-le, take_more}
 use Rattle.std.specs.Option.{option_to_list}
-use Rattle.atomic_table.proofs.Lists.{one_turn}
-use Rattle.cal_queue.specs.CompletionPass.{loaded_read, loaded_slot, loaded_write, new_get_pass, new_put_pass, stored_read, stored_slot, stored_write}
-use Rattle.cal_queue.specs.CompletionRule.{Fits, GetterFits, PutterFits, WordsFit, slot_of}
+use Rattle.cal_queue.specs.CompletionPass.{after_read_load, after_read_store, after_slot_look, after_slot_store, after_write_look, after_write_store, new_get_pass, new_put_pass}
+use Rattle.cal_queue.specs.CompletionRule.{Fits, ReaderFits, ValuesFit, WriterFits}
+use Rattle.cal_queue.specs.RingWords.{WordsFit, slot_of}
 use Rattle.cal_queue.specs.declared.completion_ring.pass.PutPass.{PutPass}
 use Rattle.cal_queue.specs.declared.completion_ring.pass.GetPass.{GetPass}
+use Rattle.cal_queue.proofs.RingWordsFit.{WordsFit-new, WordsFit-read, WordsFit-slot, WordsFit-written, grown-before, next_slot-stored, slot-after_store}
 
--- ---- slots
-
-pub slot_within : (capacity position : ℕ) → 1 ≤ capacity → slot_of capacity position < capacity + 2
-slot_within capacity position some = let h = mod_below position capacity (omega arith) in omega arith
-
--- positions less than the capacity apart have slots of their own
-slots_apart : (capacity p q : ℕ) → p < q → q < p + capacity → slot_of capacity p ≢ slot_of capacity q
-slots_apart capacity p q below near e =
-    let x : ℕ = p % capacity in
-    let y : ℕ = q % capacity in
-    let e' : x + 2 ≡ y + 2 = e in
-    let same : x ≡ y = omega arith in
-    let one = one_turn p q capacity (omega arith) (omega arith) same in omega arith
-
--- ---- a new ring
-
-pub new_ring_fits : (capacity : ℕ) (words : List ℕ) → 1 ≤ capacity → length words ≡ capacity + 2 → get_or words 0 0 ≡ 0 → get_or words 1 0 ≡ 0
-    → Fits capacity words (new_put_pass capacity) (new_get_pass capacity)
-new_ring_fits capacity words some sized read written = record {
-  words_fit = record {
-    sized = sized;
-    some_room = some;
-    read_position = read;
-    write_position = written;
-    got_first = refl;
-    read_within = omega arith;
-    room = omega arith;
-    waiting_in_slots = λ p from below. absurd (omega arith);
-  };
-  putter_fits = record {
+pub new_ring-fits : (capacity : ℕ) (words : List ℕ) → 1 ≤ capacity → length words ≡ capacity + 2
+    → get_or words 0 0 ≡ 0 → get_or words 1 0 ≡ 0 → Fits capacity words (new_put_pass capacity) (new_get_pass capacity)
+new_ring-fits capacity words some sized read written = record {
+  words_fit = WordsFit-new capacity words sized read written;
+  values_fit = record { some_room = some; got_first = refl; room = omega arith };
+  writer_fits = record {
     sized = refl;
     read_within = omega arith;
     to_put_in_slot = λ value is. cc;
     to_put_room = λ value is. cc;
     to_put_counts = λ value is. cc;
   };
-  getter_fits = record {
+  reader_fits = record {
     sized = refl;
     write_within = omega arith;
     value_waits = λ value is. cc;
@@ -55,134 +30,112 @@ new_ring_fits capacity words some sized read written = record {
   };
 }
 
-module _ (capacity : ℕ) (words : List ℕ) (putter : PutPass) (getter : GetPass) (fits : Fits capacity words putter getter) where
-  abbrev W : WordsFit capacity words putter.put getter.got
+module _ (capacity : ℕ) (words : List ℕ) (writer : PutPass) (reader : GetPass)
+    (fits : Fits capacity words writer reader) where
+  abbrev W : WordsFit capacity words writer.put (length reader.got)
   W = fits.words_fit
 
-  abbrev X : PutterFits capacity words getter.got putter
-  X = fits.putter_fits
+  abbrev V : ValuesFit capacity writer.put reader.got
+  V = fits.values_fit
 
-  abbrev Y : GetterFits capacity putter.put getter
-  Y = fits.getter_fits
+  abbrev X : WriterFits capacity words reader.got writer
+  X = fits.writer_fits
 
-  abbrev next_slot : ℕ
-  next_slot = slot_of capacity (length putter.put)
+  abbrev Y : ReaderFits capacity writer.put reader
+  Y = fits.reader_fits
 
   -- ---- the putting end
 
-  module _ (idle : putter.to_put ≡ None) where
-    none_to_put : (value : ℕ) → putter.to_put ≡ Some value → ⊥
+  module _ (idle : writer.to_put ≡ None) where
+    none_to_put : (value : ℕ) → writer.to_put ≡ Some value → ⊥
     none_to_put value is = cc
 
-    pub putter_loads : Fits capacity words (loaded_read (get_or words 0 0) putter) getter
-    putter_loads = record {
+    pub writer_loads_read-fits : Fits capacity words (after_read_load (get_or words 0 0) writer) reader
+    writer_loads_read-fits = record {
       words_fit = W;
-      putter_fits = record {
+      values_fit = V;
+      writer_fits = record {
         sized = X.sized;
         read_within = let h = W.read_position in omega arith;
         to_put_in_slot = X.to_put_in_slot;
         to_put_room = λ value is. absurd (none_to_put value is);
         to_put_counts = X.to_put_counts;
       };
-      getter_fits = Y;
+      reader_fits = Y;
     }
 
-    module _ (value : ℕ) (has_room : length putter.put < putter.seen_read + capacity) (counts : length putter.put < 2 ^ 64 - 1) where
-      abbrev filled : List ℕ
-      filled = set words next_slot value
+    pub writer_stores_slot-fits : (value : ℕ) → length writer.put < writer.seen_read + capacity
+        → length writer.put < 2 ^ 64 - 1
+        → Fits capacity (set words (slot_of capacity (length writer.put)) value) (after_slot_store value writer) reader
+    writer_stores_slot-fits value has_room counts = let seen = X.read_within in
+        let some = V.some_room in record {
+          words_fit = WordsFit-slot capacity words writer.put (length reader.got) W value some (omega arith);
+          values_fit = V;
+          writer_fits = record {
+            sized = X.sized;
+            read_within = X.read_within;
+            to_put_in_slot = λ v is.
+                next_slot-stored capacity words writer.put (length reader.got) W value some ∙ cc;
+            to_put_room = λ v is. has_room;
+            to_put_counts = λ v is. counts;
+          };
+          reader_fits = Y;
+        }
 
-      pub putter_stores_slot : Fits capacity filled (stored_slot value putter) getter
-      putter_stores_slot = let within = slot_within capacity (length putter.put) W.some_room in
-          let size = W.sized in
-          let seen = X.read_within in record {
-            words_fit = record {
-              sized = length-set words next_slot value ∙ size;
-              some_room = W.some_room;
-              read_position = let n : 0 ≢ next_slot = omega arith in get_or-set_other words next_slot 0 value 0 n ∙ W.read_position;
-              write_position = let n : 1 ≢ next_slot = omega arith in get_or-set_other words next_slot 1 value 0 n ∙ W.write_position;
-              got_first = W.got_first;
-              read_within = W.read_within;
-              room = W.room;
-              waiting_in_slots = λ p from below. get_or-set_other words next_slot (slot_of capacity p) value 0 (slots_apart capacity p (length putter.put) below (omega arith)) ∙ W.waiting_in_slots p from below;
-            };
-            putter_fits = record {
-              sized = X.sized;
-              read_within = X.read_within;
-              to_put_in_slot = λ v is. get_or-set_same words next_slot value 0 (omega arith) ∙ cc;
-              to_put_room = λ v is. has_room;
-              to_put_counts = λ v is. counts;
-            };
-            getter_fits = Y;
-          }
-
-  module _ (value : ℕ) (pending : putter.to_put ≡ Some value) where
+  module _ (value : ℕ) (pending : writer.to_put ≡ Some value) where
     abbrev grown : List ℕ
-    grown = putter.put ++ value ∷ []
+    grown = writer.put ++ value ∷ []
 
     abbrev published : List ℕ
-    published = set words 1 (length putter.put + 1)
+    published = set words 1 (length writer.put + 1)
 
-    grown-before : (p : ℕ) → p < length putter.put → get_or grown p 0 ≡ get_or putter.put p 0
-    grown-before p below = get_or_append_left putter.put (value ∷ []) 0 p below
-
-    grown-last : get_or grown (length putter.put) 0 ≡ value
-    grown-last = get_or_at putter.put value [] 0 (length putter.put) refl
-
-    one_more : length grown ≡ length putter.put + 1
-    one_more = length-append putter.put (value ∷ [])
-
-    in_slot : (p : ℕ) → length getter.got ≤ p → p < length grown → get_or published (slot_of capacity p) 0 ≡ get_or grown p 0
-    in_slot p from below =
-        let n : slot_of capacity p ≢ 1 = omega arith in
-        let long = one_more in
-        get_or-set_other words 1 (slot_of capacity p) (length putter.put + 1) 0 n
-        ∙ ⊎_elim (λ old. W.waiting_in_slots p from old ∙ sym (grown-before p old))
-        (λ past. let last : p ≡ length putter.put = omega arith in
-        ap (λ (k : ℕ). get_or words (slot_of capacity k) 0) last ∙ X.to_put_in_slot value pending ∙ sym grown-last ∙ ap (λ (k : ℕ). get_or grown k 0) (sym last))
-        (cases_lt p (length putter.put))
-
-    published_fits : Fits capacity published (record putter { put = grown; to_put = None }) getter
-    published_fits = let size = W.sized in
-        let long = one_more in
+    published_fits : Fits capacity published (record writer { put = grown; to_put = None }) reader
+    published_fits = let long : length grown ≡ length writer.put + 1 = length-append writer.put (value ∷ []) in
         let seen = X.read_within in
         let near = X.to_put_room value pending in
         let within = W.read_within in record {
-          words_fit = record {
-            sized = length-set words 1 (length putter.put + 1) ∙ size;
-            some_room = W.some_room;
-            read_position = let n : 0 ≢ 1 = omega arith in get_or-set_other words 1 0 (length putter.put + 1) 0 n ∙ W.read_position;
-            write_position = get_or-set_same words 1 (length putter.put + 1) 0 (omega arith) ∙ sym long;
-            got_first = W.got_first ∙ sym (take-append-le (length getter.got) putter.put (value ∷ []) within);
-            read_within = omega arith;
+          words_fit = WordsFit-written capacity words writer.put (length reader.got) W value
+              (X.to_put_in_slot value pending);
+          values_fit = record {
+            some_room = V.some_room;
+            got_first = V.got_first ∙ sym (take-append-le (length reader.got) writer.put (value ∷ []) within);
             room = omega arith;
-            waiting_in_slots = in_slot;
           };
-          putter_fits = record {
+          writer_fits = record {
             sized = X.sized;
             read_within = X.read_within;
             to_put_in_slot = λ v is. cc;
             to_put_room = λ v is. cc;
             to_put_counts = λ v is. cc;
           };
-          getter_fits = record {
+          reader_fits = record {
             sized = Y.sized;
             write_within = let h = Y.write_within in omega arith;
             value_waits = Y.value_waits;
             value_put = λ v is. let waits = Y.value_waits v is in
-                let seen' = Y.write_within in grown-before (length getter.got) (omega arith) ∙ Y.value_put v is;
+                let seen' = Y.write_within in
+                grown-before capacity words writer.put (length reader.got) W value (length reader.got) (omega arith)
+                ∙ Y.value_put v is;
           };
         }
 
-    pub putter_stores_write : Fits capacity published (stored_write putter) getter
-    putter_stores_write = subst (λ (o : Option ℕ). Fits capacity published (record putter { put = putter.put ++ option_to_list o; to_put = None }) getter) (sym pending) published_fits
+    pub writer_stores_write-fits : Fits capacity published (after_write_store writer) reader
+    writer_stores_write-fits = subst
+        (λ (o : Option ℕ). Fits capacity published (record writer {
+          put = writer.put
+              ++ option_to_list o;
+          to_put = None;
+        }) reader)
+        (sym pending) published_fits
 
   -- ---- the getting end
 
-  pub getter_loads : Fits capacity words putter (loaded_write (get_or words 1 0) getter)
-  getter_loads = record {
+  pub reader_loads_write-fits : Fits capacity words writer (after_write_look (get_or words 1 0) reader)
+  reader_loads_write-fits = record {
     words_fit = W;
-    putter_fits = X;
-    getter_fits = record {
+    values_fit = V;
+    writer_fits = X;
+    reader_fits = record {
       sized = Y.sized;
       write_within = let h = W.write_position in omega arith;
       value_waits = λ value is. cc;
@@ -190,68 +143,63 @@ module _ (capacity : ℕ) (words : List ℕ) (putter : PutPass) (getter : GetPas
     };
   }
 
-  module _ (waits : length getter.got < getter.seen_write) where
+  module _ (waits : length reader.got < reader.seen_write) where
     abbrev its_slot : ℕ
-    its_slot = slot_of capacity (length getter.got)
+    its_slot = slot_of capacity (length reader.got)
 
-    pub getter_loads_slot : Fits capacity words putter (loaded_slot (get_or words its_slot 0) getter)
-    getter_loads_slot = record {
+    pub reader_loads_slot-fits : Fits capacity words writer (after_slot_look (get_or words its_slot 0) reader)
+    reader_loads_slot-fits = record {
       words_fit = W;
-      putter_fits = X;
-      getter_fits = record {
+      values_fit = V;
+      writer_fits = X;
+      reader_fits = record {
         sized = Y.sized;
         write_within = Y.write_within;
         value_waits = λ value is. waits;
         value_put = λ value is. let within = Y.write_within in
-            let first : get_or words its_slot 0 ≡ value = cc in sym (W.waiting_in_slots (length getter.got) (omega arith) (omega arith)) ∙ first;
+            let first : get_or words its_slot 0 ≡ value = cc in
+            sym (W.in_slots (length reader.got) (omega arith) (omega arith)) ∙ first;
       };
     }
 
-  module _ (value : ℕ) (loaded : getter.seen_value ≡ Some value) where
+  module _ (value : ℕ) (loaded : reader.seen_value ≡ Some value) where
     abbrev passed : List ℕ
-    passed = set words 0 (length getter.got + 1)
+    passed = set words 0 (length reader.got + 1)
 
     abbrev taken : List ℕ
-    taken = getter.got ++ value ∷ []
+    taken = reader.got ++ value ∷ []
 
     -- a value waits at the read position
-    pub got_below : length getter.got < length putter.put
+    pub got_below : length reader.got < length writer.put
     got_below = let waits = Y.value_waits value loaded in
         let within = Y.write_within in omega arith
 
-    taken_first : taken ≡ take (length taken) putter.put
+    taken_first : taken ≡ take (length taken) writer.put
     taken_first =
-        let long : length taken ≡ length getter.got + 1 = length-append getter.got (value ∷ []) in
-        ap (λ (l : List ℕ). l ++ value ∷ []) W.got_first
-        ∙ ap (λ (v : ℕ). take (length getter.got) putter.put ++ v ∷ []) (sym (Y.value_put value loaded))
-        ∙ sym (take_more putter.put (length getter.got) 0 got_below)
-        ∙ ap (λ (n : ℕ). take n putter.put) (sym long)
+        let long : length taken ≡ length reader.got + 1 = length-append reader.got (value ∷ []) in
+        ap (λ (l : List ℕ). l ++ value ∷ []) V.got_first
+        ∙ ap (λ (v : ℕ). take (length reader.got) writer.put ++ v ∷ []) (sym (Y.value_put value loaded))
+        ∙ sym (take_more writer.put (length reader.got) 0 got_below)
+        ∙ ap (λ (n : ℕ). take n writer.put) (sym long)
 
-    passed_fits : Fits capacity passed putter (record getter { got = taken; seen_value = None })
-    passed_fits = let size = W.sized in
-        let below = got_below in
-        let room = W.room in
+    passed_fits : Fits capacity passed writer (record reader { got = taken; seen_value = None })
+    passed_fits = let below = got_below in
+        let room = V.room in
         let seen = X.read_within in
-        let long : length taken ≡ length getter.got + 1 = length-append getter.got (value ∷ []) in record {
-          words_fit = record {
-            sized = length-set words 0 (length getter.got + 1) ∙ size;
-            some_room = W.some_room;
-            read_position = get_or-set_same words 0 (length getter.got + 1) 0 (omega arith) ∙ sym long;
-            write_position = let n : 1 ≢ 0 = omega arith in get_or-set_other words 0 1 (length getter.got + 1) 0 n ∙ W.write_position;
-            got_first = taken_first;
-            read_within = omega arith;
-            room = omega arith;
-            waiting_in_slots = λ p from inside. let n : slot_of capacity p ≢ 0 = omega arith in
-                get_or-set_other words 0 (slot_of capacity p) (length getter.got + 1) 0 n ∙ W.waiting_in_slots p (omega arith) inside;
-          };
-          putter_fits = record {
+        let long : length taken ≡ length reader.got + 1 = length-append reader.got (value ∷ []) in record {
+          words_fit = WordsFit-read capacity words writer.put (length reader.got) (length taken) (length reader.got + 1)
+              W long (sym long) below;
+          values_fit = record { some_room = V.some_room; got_first = taken_first; room = omega arith };
+          writer_fits = record {
             sized = X.sized;
             read_within = omega arith;
-            to_put_in_slot = λ v is. let n : next_slot ≢ 0 = omega arith in get_or-set_other words 0 next_slot (length getter.got + 1) 0 n ∙ X.to_put_in_slot v is;
+            to_put_in_slot = λ v is.
+                slot-after_store capacity words 0 (length writer.put) (length reader.got + 1) (omega arith)
+                ∙ X.to_put_in_slot v is;
             to_put_room = X.to_put_room;
             to_put_counts = X.to_put_counts;
           };
-          getter_fits = record {
+          reader_fits = record {
             sized = Y.sized;
             write_within = Y.write_within;
             value_waits = λ v is. cc;
@@ -259,5 +207,11 @@ module _ (capacity : ℕ) (words : List ℕ) (putter : PutPass) (getter : GetPas
           };
         }
 
-    pub getter_stores_read : Fits capacity passed putter (stored_read getter)
-    getter_stores_read = subst (λ (o : Option ℕ). Fits capacity passed putter (record getter { got = getter.got ++ option_to_list o; seen_value = None })) (sym loaded) passed_fits
+    pub reader_stores_read-fits : Fits capacity passed writer (after_read_store reader)
+    reader_stores_read-fits = subst
+        (λ (o : Option ℕ). Fits capacity passed writer (record reader {
+          got = reader.got
+              ++ option_to_list o;
+          seen_value = None;
+        }))
+        (sym loaded) passed_fits

@@ -1,9 +1,14 @@
+pub mod BitMarks
+pub mod BitSets
 pub mod CompletionAllowed
 pub mod CompletionKeeps
-pub mod CompletionSchedules
+pub mod CompletionRuns
 pub mod LastValues
+pub mod ListIndexes
+pub mod LostTurns
 pub mod Members
 pub mod OneSideEach
+pub mod RingWordsFit
 pub mod Schedules
 pub mod SidedTables
 pub mod StateSteps
@@ -12,3 +17,4 @@ pub mod SubmissionAllowed
 pub mod SubmissionKeeps
 pub mod SubmissionRuns
 pub mod TaggedPositions
+pub mod WordRings

@@ -8,52 +8,50 @@ use lib.ListN.{get_elem?}
 use Rattle.atomic_table.specs.Table.{State}
 use Rattle.atomic_table.proofs.Lists.{at_set, set_here, set_else, at_longer, at_last}
 use Rattle.cal_queue.specs.declared.sided.Sided.{Sided}
-use Rattle.cal_queue.specs.Sides.{HasTwoSides, both_sides, joined}
-
--- what is at a place is within the list
-at_within : {A : Type 0} (l : List A) (j : ℕ) (a : A) → get_elem? l j ≡ some a → j < length l
-at_within [] j a e = absurd (some-ne-none a (sym e))
-at_within (x ∷ xs) zero a e = omega arith
-at_within (x ∷ xs) (suc j) a e = let h = at_within xs j a e in omega arith
-
--- a place of a list with one more is an old place, or the last
-at_snoc_place : {A : Type 0} (l : List A) (a b : A) (j : ℕ) → get_elem? (l ++ a ∷ []) j ≡ some b → (get_elem? l j ≡ some b) ⊎ ((j ≡ length l) × (a ≡ b))
-at_snoc_place [] a b zero e = inr (refl, some-injective a b e)
-at_snoc_place [] a b (suc j) e = absurd (some-ne-none b (sym e))
-at_snoc_place (x ∷ xs) a b zero e = inl e
-at_snoc_place (x ∷ xs) a b (suc j) e = ⊎_elim (λ h. inl h) (λ h. inr (ap suc h.0, h.1)) (at_snoc_place xs a b j e)
+use Rattle.cal_queue.specs.Sides.{HasTwoSides, both_sides, joined_sides}
+use Rattle.cal_queue.proofs.ListIndexes.{at_snoc, at_within}
 
 module _ {V : Type 0} (flag : V → Bool) where
-  -- some view with this flag is at a place
+  -- some view with this flag is at an index
   abbrev Held : List V → ℕ → Type 0
   Held views j = (u : V) × (get_elem? views j ≡ some u) × (flag u ≡ true)
 
   -- a side that some seat has stays with it where one view changes and keeps that flag
-  held_on : (views : List V) (seat j : ℕ) (v w : V) → get_elem? views seat ≡ some v → (flag v ≡ true → flag w ≡ true) → Held views j → Held (set views seat w) j
+  held_on : (views : List V) (seat j : ℕ) (v w : V) → get_elem? views seat ≡ some v → (flag v ≡ true → flag w ≡ true) →
+      Held views j → Held (set views seat w) j
   held_on views seat j v w at same held = dite (ℕ_discrete j seat)
       (λ e. let here : some held.0 ≡ some v = sym held.1 ∙ ap (λ (k : ℕ). get_elem? views k) e ∙ at in
-      let is : flag v ≡ true = ap flag (sym (some-injective held.0 v here)) ∙ held.2 in
-      (w, ap (λ (k : ℕ). get_elem? (set views seat w) k) e ∙ set_here views seat w (at_within views seat v at), same is))
+      let is : flag v ≡ true = ap flag (sym (some-injective held.0 v here)) ∙ held.2 in (
+        w,
+        ap (λ (k : ℕ). get_elem? (set views seat w) k) e ∙ set_here views seat w (at_within views seat v at),
+        same is,
+      ))
       (λ other. (held.0, set_else views seat j w other ∙ held.1, held.2))
 
 module _ {S P Q : Type 0} (Sound : List ℕ → P → Q → Type 0) where
   -- what the seat of the writing side, of the reading side, and of both knows of the whole
-  pub writer_meets : (s : State S (Sided P Q)) → HasTwoSides Sound s → (seat : ℕ) (v : Sided P Q) → get_elem? s.views seat ≡ some v → v.writes ≡ true
+  pub writer_meets : (s : State S (Sided P Q)) → HasTwoSides Sound s → (seat : ℕ) (v : Sided P Q) →
+      get_elem? s.views seat ≡ some v → v.writes ≡ true
       → (q : Q) × Sound s.words v.writer q
-  writer_meets s h seat v at writes = (h.reader, subst (λ (p : P). Sound s.words p h.reader) (sym (h.only_writer seat v at writes).1) h.sound)
+  writer_meets s h seat v at writes =
+      (h.reader, subst (λ (p : P). Sound s.words p h.reader) (sym (h.only_writer seat v at writes).1) h.sound)
 
-  pub reader_meets : (s : State S (Sided P Q)) → HasTwoSides Sound s → (seat : ℕ) (v : Sided P Q) → get_elem? s.views seat ≡ some v → v.reads ≡ true
+  pub reader_meets : (s : State S (Sided P Q)) → HasTwoSides Sound s → (seat : ℕ) (v : Sided P Q) →
+      get_elem? s.views seat ≡ some v → v.reads ≡ true
       → (p : P) × Sound s.words p v.reader
-  reader_meets s h seat v at reads = (h.writer, subst (λ (q : Q). Sound s.words h.writer q) (sym (h.only_reader seat v at reads).1) h.sound)
+  reader_meets s h seat v at reads =
+      (h.writer, subst (λ (q : Q). Sound s.words h.writer q) (sym (h.only_reader seat v at reads).1) h.sound)
 
-  pub both_meet : (s : State S (Sided P Q)) → HasTwoSides Sound s → (seat : ℕ) (v : Sided P Q) → get_elem? s.views seat ≡ some v → v.writes ≡ true → v.reads ≡ true
+  pub both_meet : (s : State S (Sided P Q)) → HasTwoSides Sound s → (seat : ℕ) (v : Sided P Q) →
+      get_elem? s.views seat ≡ some v → v.writes ≡ true → v.reads ≡ true
       → Sound s.words v.writer v.reader
   both_meet s h seat v at writes reads =
       subst (λ (p : P). Sound s.words p v.reader) (sym (h.only_writer seat v at writes).1)
       (subst (λ (q : Q). Sound s.words h.writer q) (sym (h.only_reader seat v at reads).1) h.sound)
 
   -- the seat of the writing side has a new pass, and the words may be others
-  pub writer_steps : (s : State S (Sided P Q)) → HasTwoSides Sound s → (seat : ℕ) (v : Sided P Q) → get_elem? s.views seat ≡ some v → v.writes ≡ true
+  pub writer_steps : (s : State S (Sided P Q)) → HasTwoSides Sound s → (seat : ℕ) (v : Sided P Q) →
+      get_elem? s.views seat ≡ some v → v.writes ≡ true
       → (words : List ℕ) (homes : List (Option S)) (p : P) → ((q : Q) → Sound s.words v.writer q → Sound words p q)
       → HasTwoSides Sound (record { words = words; homes = homes; views = set s.views seat (record v { writer = p }) })
   writer_steps s h seat v at writes words homes p keeps =
@@ -67,14 +65,16 @@ module _ {S P Q : Type 0} (Sound : List ℕ → P → Q → Type 0) where
         only_writer = λ j u e t. ⊎_elim (λ k. (k.0 ∙ mine.0, sym (ap (λ (z : Sided P Q). z.writer) k.1)))
             (λ k. absurd (k.0 ((h.only_writer j u k.1 t).0 ∙ sym mine.0))) (at_set s.views seat j w u e);
         only_reader = λ j u e t. ⊎_elim
-            (λ k. let r = h.only_reader seat v at (ap (λ (z : Sided P Q). z.reads) k.1 ∙ t) in (k.0 ∙ r.0, sym (ap (λ (z : Sided P Q). z.reader) k.1) ∙ r.1))
+            (λ k. let r = h.only_reader seat v at (ap (λ (z : Sided P Q). z.reads) k.1 ∙ t) in
+            (k.0 ∙ r.0, sym (ap (λ (z : Sided P Q). z.reader) k.1) ∙ r.1))
             (λ k. h.only_reader j u k.1 t) (at_set s.views seat j w u e);
         one_writer = held_on (λ z. z.writes) s.views seat h.writing_seat v w at (λ t. t) h.one_writer;
         one_reader = held_on (λ z. z.reads) s.views seat h.reading_seat v w at (λ t. t) h.one_reader;
       }
 
   -- the same for the reading side
-  pub reader_steps : (s : State S (Sided P Q)) → HasTwoSides Sound s → (seat : ℕ) (v : Sided P Q) → get_elem? s.views seat ≡ some v → v.reads ≡ true
+  pub reader_steps : (s : State S (Sided P Q)) → HasTwoSides Sound s → (seat : ℕ) (v : Sided P Q) →
+      get_elem? s.views seat ≡ some v → v.reads ≡ true
       → (words : List ℕ) (homes : List (Option S)) (q : Q) → ((p : P) → Sound s.words p v.reader → Sound words p q)
       → HasTwoSides Sound (record { words = words; homes = homes; views = set s.views seat (record v { reader = q }) })
   reader_steps s h seat v at reads words homes q keeps =
@@ -86,7 +86,8 @@ module _ {S P Q : Type 0} (Sound : List ℕ → P → Q → Type 0) where
         reader = q;
         sound = keeps h.writer (subst (λ (x : Q). Sound s.words h.writer x) (sym mine.1) h.sound);
         only_writer = λ j u e t. ⊎_elim
-            (λ k. let r = h.only_writer seat v at (ap (λ (z : Sided P Q). z.writes) k.1 ∙ t) in (k.0 ∙ r.0, sym (ap (λ (z : Sided P Q). z.writer) k.1) ∙ r.1))
+            (λ k. let r = h.only_writer seat v at (ap (λ (z : Sided P Q). z.writes) k.1 ∙ t) in
+            (k.0 ∙ r.0, sym (ap (λ (z : Sided P Q). z.writer) k.1) ∙ r.1))
             (λ k. h.only_writer j u k.1 t) (at_set s.views seat j w u e);
         only_reader = λ j u e t. ⊎_elim (λ k. (k.0 ∙ mine.0, sym (ap (λ (z : Sided P Q). z.reader) k.1)))
             (λ k. absurd (k.0 ((h.only_reader j u k.1 t).0 ∙ sym mine.0))) (at_set s.views seat j w u e);
@@ -109,11 +110,13 @@ module _ {S P Q : Type 0} (Sound : List ℕ → P → Q → Type 0) where
     one_reader = (both_sides p q, refl, refl);
   }
     where
-      alone : {B : Type 0} (part : Sided P Q → B) (b : B) → part (both_sides p q) ≡ b → (seat : ℕ) (v : Sided P Q) → get_elem? (both_sides p q ∷ []) seat ≡ some v → (seat ≡ 0) × (part v ≡ b)
+      alone : {B : Type 0} (part : Sided P Q → B) (b : B) → part (both_sides p q) ≡ b → (seat : ℕ) (v : Sided P Q) →
+          get_elem? (both_sides p q ∷ []) seat ≡ some v → (seat ≡ 0) × (part v ≡ b)
       alone part b is zero v e = (refl, ap part (sym (some-injective (both_sides p q) v e)) ∙ is)
       alone part b is (suc j) v e = absurd (some-ne-none v (sym e))
 
-  module _ (s : State S (Sided P Q)) (h : HasTwoSides Sound s) (seat : ℕ) (v : Sided P Q) (at : get_elem? s.views seat ≡ some v) (writes : v.writes ≡ true) (reads : v.reads ≡ true) where
+  module _ (s : State S (Sided P Q)) (h : HasTwoSides Sound s) (seat : ℕ) (v : Sided P Q)
+      (at : get_elem? s.views seat ≡ some v) (writes : v.writes ≡ true) (reads : v.reads ≡ true) where
     abbrev left_view : Sided P Q
     left_view = record v { reads = false }
 
@@ -121,7 +124,8 @@ module _ {S P Q : Type 0} (Sound : List ℕ → P → Q → Type 0) where
     right_view = record v { writes = false }
 
     -- the seat that has both sides keeps the writing side, and a new seat has the reading side
-    pub parts : HasTwoSides Sound (record { words = s.words; homes = s.homes; views = set s.views seat left_view ++ right_view ∷ [] })
+    pub parts : HasTwoSides Sound
+        (record { words = s.words; homes = s.homes; views = set s.views seat left_view ++ right_view ∷ [] })
     parts = let kept = set s.views seat left_view in
         let mine = h.only_writer seat v at writes in
         let his = h.only_reader seat v at reads in record {
@@ -131,36 +135,52 @@ module _ {S P Q : Type 0} (Sound : List ℕ → P → Q → Type 0) where
           reader = v.reader;
           sound = both_meet s h seat v at writes reads;
           only_writer = λ j u e t. ⊎_elim
-              (λ k. ⊎_elim (λ i. (i.0, sym (ap (λ (z : Sided P Q). z.writer) i.1))) (λ i. absurd (i.0 ((h.only_writer j u i.1 t).0 ∙ sym mine.0))) (at_set s.views seat j left_view u k))
-              (λ k. absurd (false≢true (ap (λ (z : Sided P Q). z.writes) k.1 ∙ t))) (at_snoc_place kept right_view u j e);
+              (λ k. ⊎_elim (λ i. (i.0, sym (ap (λ (z : Sided P Q). z.writer) i.1)))
+              (λ i. absurd (i.0 ((h.only_writer j u i.1 t).0 ∙ sym mine.0))) (at_set s.views seat j left_view u k))
+              (λ k. absurd (false≢true (ap (λ (z : Sided P Q). z.writes) k.1 ∙ t))) (at_snoc kept right_view u j e);
           only_reader = λ j u e t. ⊎_elim
-              (λ k. ⊎_elim (λ i. absurd (false≢true (ap (λ (z : Sided P Q). z.reads) i.1 ∙ t))) (λ i. absurd (i.0 ((h.only_reader j u i.1 t).0 ∙ sym his.0))) (at_set s.views seat j left_view u k))
-              (λ k. (k.0, sym (ap (λ (z : Sided P Q). z.reader) k.1))) (at_snoc_place kept right_view u j e);
-          one_writer = (left_view, at_longer kept (right_view ∷ []) seat left_view (set_here s.views seat left_view (at_within s.views seat v at)), writes);
+              (λ k. ⊎_elim (λ i. absurd (false≢true (ap (λ (z : Sided P Q). z.reads) i.1 ∙ t)))
+              (λ i. absurd (i.0 ((h.only_reader j u i.1 t).0 ∙ sym his.0))) (at_set s.views seat j left_view u k))
+              (λ k. (k.0, sym (ap (λ (z : Sided P Q). z.reader) k.1))) (at_snoc kept right_view u j e);
+          one_writer = (
+            left_view,
+            at_longer kept (right_view ∷ []) seat left_view
+                (set_here s.views seat left_view (at_within s.views seat v at)),
+            writes,
+          );
           one_reader = (right_view, at_last kept right_view (length kept) refl, reads);
         }
 
-  module _ (s : State S (Sided P Q)) (h : HasTwoSides Sound s) (seat other : ℕ) (v w gone : Sided P Q) (at : get_elem? s.views seat ≡ some v) (writes : v.writes ≡ true)
-      (apart : ¬ (other ≡ seat)) (there : get_elem? (set s.views seat (joined v w)) other ≡ some w) (reads : w.reads ≡ true) (no_writes : gone.writes ≡ false) (no_reads : gone.reads ≡ false) where
+  module _ (s : State S (Sided P Q)) (h : HasTwoSides Sound s) (seat other : ℕ) (v w gone : Sided P Q)
+      (at : get_elem? s.views seat ≡ some v) (writes : v.writes ≡ true)
+      (apart : ¬ (other ≡ seat)) (there : get_elem? (set s.views seat (joined_sides v w)) other ≡ some w)
+      (reads : w.reads ≡ true) (no_writes : gone.writes ≡ false) (no_reads : gone.reads ≡ false) where
     -- the seat of the writing side takes the reading side in, and the other seat's view is spent
-    pub joins : HasTwoSides Sound (record { words = s.words; homes = s.homes; views = set (set s.views seat (joined v w)) other gone })
-    joins = let both = joined v w in
+    pub joins : HasTwoSides Sound
+        (record { words = s.words; homes = s.homes; views = set (set s.views seat (joined_sides v w)) other gone })
+    joins = let both = joined_sides v w in
         let half = set s.views seat both in
         let at_other = sym (set_else s.views seat other both apart) ∙ there in
         let mine = h.only_writer seat v at writes in
         let his = h.only_reader other w at_other reads in
         let back : ¬ (seat ≡ other) = λ e. apart (sym e) in
-        let here = set_else half other seat gone back ∙ set_here s.views seat both (at_within s.views seat v at) in record {
+        let here = set_else half other seat gone back ∙ set_here s.views seat both (at_within s.views seat v at) in
+        record {
           writing_seat = seat;
           reading_seat = seat;
           writer = v.writer;
           reader = w.reader;
-          sound = subst (λ (p : P). Sound s.words p w.reader) (sym mine.1) (subst (λ (q : Q). Sound s.words h.writer q) (sym his.1) h.sound);
-          only_writer = λ j u e t. ⊎_elim (λ k. absurd (false≢true (sym no_writes ∙ ap (λ (z : Sided P Q). z.writes) k.1 ∙ t)))
-              (λ k. ⊎_elim (λ i. (i.0, sym (ap (λ (z : Sided P Q). z.writer) i.1))) (λ i. absurd (i.0 ((h.only_writer j u i.1 t).0 ∙ sym mine.0))) (at_set s.views seat j both u k.1))
+          sound = subst (λ (p : P). Sound s.words p w.reader) (sym mine.1)
+              (subst (λ (q : Q). Sound s.words h.writer q) (sym his.1) h.sound);
+          only_writer = λ j u e t. ⊎_elim
+              (λ k. absurd (false≢true (sym no_writes ∙ ap (λ (z : Sided P Q). z.writes) k.1 ∙ t)))
+              (λ k. ⊎_elim (λ i. (i.0, sym (ap (λ (z : Sided P Q). z.writer) i.1)))
+              (λ i. absurd (i.0 ((h.only_writer j u i.1 t).0 ∙ sym mine.0))) (at_set s.views seat j both u k.1))
               (at_set half other j gone u e);
-          only_reader = λ j u e t. ⊎_elim (λ k. absurd (false≢true (sym no_reads ∙ ap (λ (z : Sided P Q). z.reads) k.1 ∙ t)))
-              (λ k. ⊎_elim (λ i. (i.0, sym (ap (λ (z : Sided P Q). z.reader) i.1))) (λ i. absurd (k.0 ((h.only_reader j u i.1 t).0 ∙ sym his.0))) (at_set s.views seat j both u k.1))
+          only_reader = λ j u e t. ⊎_elim
+              (λ k. absurd (false≢true (sym no_reads ∙ ap (λ (z : Sided P Q). z.reads) k.1 ∙ t)))
+              (λ k. ⊎_elim (λ i. (i.0, sym (ap (λ (z : Sided P Q). z.reader) i.1)))
+              (λ i. absurd (k.0 ((h.only_reader j u i.1 t).0 ∙ sym his.0))) (at_set s.views seat j both u k.1))
               (at_set half other j gone u e);
           one_writer = (both, here, refl);
           one_reader = (both, here, refl);

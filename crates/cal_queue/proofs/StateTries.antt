@@ -19,7 +19,8 @@ OnlyLooked-next a b c first then = record {
   looks = first.looks ++ then.looks;
   are_looks = AreLooks-append first.looks then.looks first.are_looks then.are_looks;
   opening = then.opening ∙ first.opening;
-  steps = then.steps ∙ ap (λ (s : List StateStep). s ++ then.looks) first.steps ∙ append_assoc a.steps first.looks then.looks;
+  steps = then.steps ∙ ap (λ (s : List StateStep). s ++ then.looks) first.steps
+      ∙ append_assoc a.steps first.looks then.looks;
 }
 
 pub EndsWith-after : (a b c : StatePass) (last : StateStep) → OnlyLooked a b → EndsWith b c last → EndsWith a c last
@@ -27,7 +28,8 @@ EndsWith-after a b c last first ends = record {
   looks = first.looks ++ ends.looks;
   are_looks = AreLooks-append first.looks ends.looks first.are_looks ends.are_looks;
   opening = ends.opening ∙ first.opening;
-  steps = ends.steps ∙ ap (λ (s : List StateStep). (s ++ ends.looks) ++ last ∷ []) first.steps ∙ ap (λ (s : List StateStep). s ++ last ∷ []) (append_assoc a.steps first.looks ends.looks);
+  steps = ends.steps ∙ ap (λ (s : List StateStep). (s ++ ends.looks) ++ last ∷ []) first.steps ∙ ap
+      (λ (s : List StateStep). s ++ last ∷ []) (append_assoc a.steps first.looks ends.looks);
 }
 
 module _ (bit : ℕ) (a b c : StatePass) (first : OnlyLooked a b) where
@@ -43,11 +45,13 @@ module _ (bit : ℕ) (a b c : StatePass) (first : OnlyLooked a b) where
   Refused-after (AlreadyConnected seen) refused = (refused.0, EndsWith-after a b c _ first refused.1)
   Refused-after (BeingCleanedUp seen) refused = (refused.0, refused.1, EndsWith-after a b c _ first refused.2)
 
-  pub LeftMark-after : (marked : Bool) → MatchBool marked (LeftMark bit b c) (LeftOther bit b c ⊎ WasAbsent bit b c) → OnTrue marked (LeftMark bit a c)
+  pub LeftMark-after : (marked : Bool) → MatchBool marked (LeftMark bit b c) (LeftOther bit b c ⊎ WasAbsent bit b c) →
+      OnTrue marked (LeftMark bit a c)
   LeftMark-after true done = EndsWith-after a b c _ first done
   LeftMark-after false done = tt
 
-  pub Left-after : (marked : Bool) → MatchBool marked (LeftMark bit b c) (LeftOther bit b c ⊎ WasAbsent bit b c) → OnFalse marked (LeftOther bit a c ⊎ WasAbsent bit a c)
+  pub Left-after : (marked : Bool) → MatchBool marked (LeftMark bit b c) (LeftOther bit b c ⊎ WasAbsent bit b c) →
+      OnFalse marked (LeftOther bit a c ⊎ WasAbsent bit a c)
   Left-after true done = tt
   Left-after false done = ⊎_elim
       (λ other. inl (EndsWith-after a b c _ first other))

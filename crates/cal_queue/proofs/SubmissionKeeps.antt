@@ -1,46 +1,25 @@
 -- Each step of either end of a submission ring keeps the words and the passes fitting together, from any state in which
 -- they do.
-use Rattle.std.proofs.Common.{◌≡◌, ◌≢◌, ℕ, ◌+◌, ◌-◌, ◌%◌, ◌^◌, ◌<◌, ◌≤◌, Bool, true, false, List, [], ◌∷◌, ◌++◌, length, get_or, set, Some, eqb, refl, sym, ap, ◌∙◌, ⊎_elim, arith, length-append, eq-eqb, eqb-true}
-use Rattle.std.proofs.lemmas.Bool.{false≢true, cases_lt}
-use Rattle.std.proofs.lemmas.Nat.{mod_below}
-use Rattle.std.proofs.lemmas.List.{length-set, get_or-set_same, get_or-set_other, get_or_append_left, get_or_at, append-nil}
-use Rattle.atomic_table.proofs.Lists.{one_turn}
-use Rattle.cal_queue.specs.Channel.{Tag, received, overflowed, tagged_from}
-use Rattle.cal_queue.specs.SubmissionPass.{new_send_pass, new_take_pass, loaded_read, stored_slot, stored_write, won_exchange, lost_exchange, looked_at_read, looked_at_write, looked_at_slot, took, missed, IsIdle}
-use Rattle.cal_queue.specs.SubmissionRule.{WordsFit, SenderFits, TakerFits, Fits, slot_of}
+use Rattle.std.proofs.Common.{◌≡◌, ◌≢◌, ℕ, ◌+◌, ◌-◌, ◌^◌, ◌<◌, ◌≤◌, Bool, true, false, List, [], ◌∷◌, ◌++◌, length, get_or, map, set, Option, Some, None, eqb, refl, sym, ap, ◌∙◌, subst, arith, length-append, eq-eqb, eqb-true}
+use Rattle.std.proofs.lemmas.Bool.{false≢true}
+use Rattle.std.proofs.lemmas.List.{append-nil}
+use Rattle.std.specs.Option.{option_to_list}
+use Rattle.cal_queue.specs.RingState.{Tag, received, overflowed, tagged_positions}
+use Rattle.cal_queue.specs.RingWords.{WordsFit, slot_of}
+use Rattle.cal_queue.specs.SubmissionPass.{IsIdle, after_lost_exchange, after_miss, after_read_load, after_read_look, after_slot_look, after_slot_store, after_take, after_won_exchange, after_write_look, after_write_store, new_send_pass, new_take_pass}
+use Rattle.cal_queue.specs.SubmissionRule.{Fits, ReaderFits, WriterFits}
 use Rattle.cal_queue.specs.declared.submission_ring.pass.SendPass.{SendPass}
 use Rattle.cal_queue.specs.declared.submission_ring.pass.TakePass.{TakePass}
-use Rattle.cal_queue.proofs.Schedules.{tagged_from-sent, tagged_from-tag}
+use Rattle.cal_queue.proofs.RingWordsFit.{WordsFit-new, WordsFit-read, WordsFit-slot, WordsFit-written, grown-before, next_slot-stored, slot-after_store}
+use Rattle.cal_queue.proofs.Schedules.{tagged_positions-sent, tagged_positions-tag}
 
--- ---- slots
-
-pub slot_within : (buffer position : ℕ) → slot_of buffer position < buffer + 3
-slot_within buffer position = let h = mod_below position (buffer + 1) (omega arith) in omega arith
-
--- positions less than the ring's size apart have slots of their own
-slots_apart : (buffer p q : ℕ) → p < q → q ≤ p + buffer → slot_of buffer p ≢ slot_of buffer q
-slots_apart buffer p q below near e =
-    let x : ℕ = p % (buffer + 1) in
-    let y : ℕ = q % (buffer + 1) in
-    let e' : x + 2 ≡ y + 2 = e in
-    let same : x ≡ y = omega arith in
-    let one = one_turn p q (buffer + 1) (omega arith) (omega arith) same in omega arith
-
--- ---- a new ring
-
-pub new_ring_fits : (buffer : ℕ) (words : List ℕ) → length words ≡ buffer + 3 → get_or words 0 0 ≡ 0 → get_or words 1 0 ≡ 0
-    → Fits buffer words (new_send_pass buffer) (new_take_pass buffer) []
-new_ring_fits buffer words sized read written = record {
-  words_fit = record {
-    sized = sized;
-    read_position = read;
-    write_position = written;
-    read_within = omega arith;
-    queued_in_slots = λ p from below. absurd (omega arith);
-  };
-  sender_fits = record {
+pub new_ring-fits : (buffer : ℕ) (words : List ℕ) → length words ≡ buffer + 3
+    → get_or words 0 0 ≡ 0 → get_or words 1 0 ≡ 0 → Fits buffer words (new_send_pass buffer) (new_take_pass buffer) []
+new_ring-fits buffer words sized read written = record {
+  words_fit = WordsFit-new (buffer + 1) words (omega arith) read written;
+  writer_fits = record {
     sized = refl;
-    returned_overflowed = refl;
+    overflowed_tagged = refl;
     read_within = omega arith;
     room = λ due. omega arith;
     due_room = λ due. absurd (false≢true due);
@@ -50,7 +29,7 @@ new_ring_fits buffer words sized read written = record {
     to_send_room = λ value is. cc;
     to_send_counts = λ value is. cc;
   };
-  taker_fits = record {
+  reader_fits = record {
     sized = refl;
     received_tagged = refl;
     read_within = omega arith;
@@ -61,34 +40,35 @@ new_ring_fits buffer words sized read written = record {
   };
 }
 
-module _ (buffer : ℕ) (words : List ℕ) (send : SendPass) (take : TakePass) (tags : List Tag) (fits : Fits buffer words send take tags) where
-  abbrev W : WordsFit buffer words send.sent tags
+module _ (buffer : ℕ) (words : List ℕ) (writer : SendPass) (reader : TakePass) (tags : List Tag)
+    (fits : Fits buffer words writer reader tags) where
+  abbrev slots : ℕ
+  slots = buffer + 1
+
+  abbrev W : WordsFit slots words writer.sent (length tags)
   W = fits.words_fit
 
-  abbrev X : SenderFits buffer words tags send
-  X = fits.sender_fits
+  abbrev X : WriterFits buffer words tags writer
+  X = fits.writer_fits
 
-  abbrev Y : TakerFits buffer send.sent tags take
-  Y = fits.taker_fits
-
-  abbrev next_slot : ℕ
-  next_slot = slot_of buffer (length send.sent)
+  abbrev Y : ReaderFits buffer writer.sent tags reader
+  Y = fits.reader_fits
 
   -- ---- the sender
 
-  module _ (idle : IsIdle send) where
-    not_due : send.exchange_due ≡ true → ⊥
+  module _ (idle : IsIdle writer) where
+    not_due : writer.exchange_due ≡ true → ⊥
     not_due due = false≢true (sym idle.none_due ∙ due)
 
-    none_to_send : (value : ℕ) → send.to_send ≡ Some value → ⊥
+    none_to_send : (value : ℕ) → writer.to_send ≡ Some value → ⊥
     none_to_send value is = let none = idle.none_to_send in cc
 
-    pub sender_looks : Fits buffer words (loaded_read (get_or words 0 0) send) take tags
-    sender_looks = record {
+    pub writer_loads_read-fits : Fits buffer words (after_read_load (get_or words 0 0) writer) reader tags
+    writer_loads_read-fits = record {
       words_fit = W;
-      sender_fits = record {
+      writer_fits = record {
         sized = X.sized;
-        returned_overflowed = X.returned_overflowed;
+        overflowed_tagged = X.overflowed_tagged;
         read_within = let h = W.read_position in omega arith;
         room = X.room;
         due_room = X.due_room;
@@ -98,90 +78,59 @@ module _ (buffer : ℕ) (words : List ℕ) (send : SendPass) (take : TakePass) (
         to_send_room = λ value is. absurd (none_to_send value is);
         to_send_counts = X.to_send_counts;
       };
-      taker_fits = Y;
+      reader_fits = Y;
     }
 
-    module _ (value : ℕ) (has_room : length send.sent ≤ send.seen_read + buffer) (counts : length send.sent < 2 ^ 64 - 1) where
-      abbrev filled : List ℕ
-      filled = set words next_slot value
+    pub writer_stores_slot-fits : (value : ℕ) → length writer.sent ≤ writer.seen_read + buffer
+        → length writer.sent < 2 ^ 64 - 1
+        → Fits buffer (set words (slot_of slots (length writer.sent)) value) (after_slot_store value writer) reader tags
+    writer_stores_slot-fits value has_room counts = let seen = X.read_within in record {
+      words_fit = WordsFit-slot slots words writer.sent (length tags) W value (omega arith) (omega arith);
+      writer_fits = record {
+        sized = X.sized;
+        overflowed_tagged = X.overflowed_tagged;
+        read_within = X.read_within;
+        room = X.room;
+        due_room = X.due_room;
+        due_read = X.due_read;
+        due_none_to_send = λ due. absurd (not_due due);
+        to_send_in_slot = λ v is. next_slot-stored slots words writer.sent (length tags) W value (omega arith) ∙ cc;
+        to_send_room = λ v is. has_room;
+        to_send_counts = λ v is. counts;
+      };
+      reader_fits = Y;
+    }
 
-      pub sender_stores_slot : Fits buffer filled (stored_slot value send) take tags
-      sender_stores_slot = let within = slot_within buffer (length send.sent) in
-          let size = W.sized in
-          let seen = X.read_within in record {
-            words_fit = record {
-              sized = length-set words next_slot value ∙ size;
-              read_position = let n : 0 ≢ next_slot = omega arith in get_or-set_other words next_slot 0 value 0 n ∙ W.read_position;
-              write_position = let n : 1 ≢ next_slot = omega arith in get_or-set_other words next_slot 1 value 0 n ∙ W.write_position;
-              read_within = W.read_within;
-              queued_in_slots = λ p from below. get_or-set_other words next_slot (slot_of buffer p) value 0 (slots_apart buffer p (length send.sent) below (omega arith)) ∙ W.queued_in_slots p from below;
-            };
-            sender_fits = record {
-              sized = X.sized;
-              returned_overflowed = X.returned_overflowed;
-              read_within = X.read_within;
-              room = X.room;
-              due_room = X.due_room;
-              due_read = X.due_read;
-              due_none_to_send = λ due. absurd (not_due due);
-              to_send_in_slot = λ v is. get_or-set_same words next_slot value 0 (omega arith) ∙ cc;
-              to_send_room = λ v is. has_room;
-              to_send_counts = λ v is. counts;
-            };
-            taker_fits = Y;
-          }
-
-  module _ (value : ℕ) (pending : send.to_send ≡ Some value) where
+  module _ (value : ℕ) (pending : writer.to_send ≡ Some value) where
     abbrev grown : List ℕ
-    grown = send.sent ++ value ∷ []
+    grown = writer.sent ++ value ∷ []
 
     abbrev published : List ℕ
-    published = set words 1 (length send.sent + 1)
+    published = set words 1 (length writer.sent + 1)
 
-    -- while a value is to be sent, no exchange is due
-    pending_not_due : send.exchange_due ≡ true → ⊥
-    pending_not_due due = let none = X.due_none_to_send due in cc
+    abbrev full : Bool
+    full = eqb (length writer.sent) (writer.seen_read + writer.buffer)
 
-    pub pending_room : length send.sent ≤ length tags + buffer
-    pending_room = let seen = X.read_within in let near = X.to_send_room value pending in omega arith
+    pub pending_room : length writer.sent ≤ length tags + buffer
+    pending_room = let seen = X.read_within in
+        let near = X.to_send_room value pending in omega arith
 
-    grown-before : (p : ℕ) → p < length send.sent → get_or grown p 0 ≡ get_or send.sent p 0
-    grown-before p below = get_or_append_left send.sent (value ∷ []) 0 p below
+    is_full : full ≡ true → length writer.sent ≡ writer.seen_read + buffer
+    is_full t = eqb-true _ _ t ∙ ap (λ (k : ℕ). writer.seen_read + k) X.sized
 
-    grown-last : get_or grown (length send.sent) 0 ≡ value
-    grown-last = get_or_at send.sent value [] 0 (length send.sent) refl
+    not_full : full ≡ false → length writer.sent ≢ writer.seen_read + buffer
+    not_full f e = false≢true (sym f ∙ eq-eqb _ _ (e ∙ ap (λ (k : ℕ). writer.seen_read + k) (sym X.sized)))
 
-    one_more : length grown ≡ length send.sent + 1
-    one_more = length-append send.sent (value ∷ [])
-
-    in_slot : (p : ℕ) → length tags ≤ p → p < length grown → get_or published (slot_of buffer p) 0 ≡ get_or grown p 0
-    in_slot p from below =
-        let n : slot_of buffer p ≢ 1 = omega arith in
-        let long = one_more in
-        get_or-set_other words 1 (slot_of buffer p) (length send.sent + 1) 0 n
-        ∙ ⊎_elim (λ old. W.queued_in_slots p from old ∙ sym (grown-before p old))
-        (λ past. let last : p ≡ length send.sent = omega arith in
-        ap (λ (k : ℕ). get_or words (slot_of buffer k) 0) last ∙ X.to_send_in_slot value pending ∙ sym grown-last ∙ ap (λ (k : ℕ). get_or grown k 0) (sym last))
-        (cases_lt p (length send.sent))
-
-    pub sender_stores_write : Fits buffer published (stored_write value send) take tags
-    sender_stores_write = let size = W.sized in
-        let long = one_more in
+    published_fits : Fits buffer published (record writer { sent = grown; to_send = None; exchange_due = full }) reader
+        tags
+    published_fits = let long : length grown ≡ length writer.sent + 1 = length-append writer.sent (value ∷ []) in
         let seen = X.read_within in
-        let near = X.to_send_room value pending in
-        let full : Bool = eqb (length send.sent) (send.seen_read + send.buffer) in
-        let is_full : full ≡ true → length send.sent ≡ send.seen_read + buffer = λ t. eqb-true _ _ t ∙ ap (λ (k : ℕ). send.seen_read + k) X.sized in
-        let not_full : full ≡ false → length send.sent ≢ send.seen_read + buffer = λ f e. false≢true (sym f ∙ eq-eqb _ _ (e ∙ ap (λ (k : ℕ). send.seen_read + k) (sym X.sized))) in record {
-          words_fit = record {
-            sized = length-set words 1 (length send.sent + 1) ∙ size;
-            read_position = let n : 0 ≢ 1 = omega arith in get_or-set_other words 1 0 (length send.sent + 1) 0 n ∙ W.read_position;
-            write_position = get_or-set_same words 1 (length send.sent + 1) 0 (omega arith) ∙ sym long;
-            read_within = let h = W.read_within in omega arith;
-            queued_in_slots = in_slot;
-          };
-          sender_fits = record {
+        let near = X.to_send_room value pending in record {
+          words_fit = WordsFit-written slots words writer.sent (length tags) W value (X.to_send_in_slot value pending);
+          writer_fits = record {
             sized = X.sized;
-            returned_overflowed = X.returned_overflowed ∙ sym (tagged_from-sent overflowed 0 tags send.sent value W.read_within);
+            overflowed_tagged = X.overflowed_tagged
+                ∙ sym (tagged_positions-sent overflowed 0 tags writer.sent value W.read_within);
             read_within = X.read_within;
             room = λ due. let h = not_full due in omega arith;
             due_room = λ due. omega arith;
@@ -191,54 +140,58 @@ module _ (buffer : ℕ) (words : List ℕ) (send : SendPass) (take : TakePass) (
             to_send_room = λ v is. cc;
             to_send_counts = λ v is. cc;
           };
-          taker_fits = record {
+          reader_fits = record {
             sized = Y.sized;
-            received_tagged = Y.received_tagged ∙ sym (tagged_from-sent received 0 tags send.sent value W.read_within);
+            received_tagged = Y.received_tagged
+                ∙ sym (tagged_positions-sent received 0 tags writer.sent value W.read_within);
             read_within = Y.read_within;
             write_within = λ write is. let h = Y.write_within write is in omega arith;
             write_not_behind = Y.write_not_behind;
             value_queued = Y.value_queued;
             value_sent = λ v is here. let q = Y.value_queued v is in
                 let behind = q.2 in
-                let within = Y.write_within q.0 q.1 in grown-before take.seen_read (omega arith) ∙ Y.value_sent v is here;
+                let within = Y.write_within q.0 q.1 in
+                grown-before slots words writer.sent (length tags) W value reader.seen_read (omega arith)
+                ∙ Y.value_sent v is here;
           };
         }
 
-  module _ (due : send.exchange_due ≡ true) where
-    due_not_pending : (value : ℕ) → send.to_send ≡ Some value → ⊥
+    pub writer_stores_write-fits : Fits buffer published (after_write_store writer) reader tags
+    writer_stores_write-fits = subst
+        (λ (o : Option ℕ). Fits buffer published
+        (record writer { sent = writer.sent ++ option_to_list o; to_send = None; exchange_due = full }) reader tags)
+        (sym pending) published_fits
+
+  module _ (due : writer.exchange_due ≡ true) where
+    due_not_pending : (value : ℕ) → writer.to_send ≡ Some value → ⊥
     due_not_pending value is = let none = X.due_none_to_send due in cc
 
-    pub due_full : length send.sent ≡ send.seen_read + buffer + 1
+    pub due_full : length writer.sent ≡ writer.seen_read + buffer + 1
     due_full = X.due_read due
 
     -- the read position is still the one that was loaded
-    module _ (hit : get_or words 0 0 ≡ send.seen_read) where
-      abbrev moved : List ℕ
-      moved = set words 0 (send.seen_read + 1)
-
-      still_there : length tags ≡ send.seen_read
+    module _ (hit : get_or words 0 0 ≡ writer.seen_read) where
+      still_there : length tags ≡ writer.seen_read
       still_there = sym W.read_position ∙ hit
 
-      pub sender_wins : Fits buffer moved (won_exchange send) take (tags ++ overflowed ∷ [])
-      sender_wins = let size = W.sized in
-          let long = due_full in
+      pub writer_wins-fits : Fits buffer (set words 0 (writer.seen_read + 1)) (after_won_exchange writer) reader (tags
+          ++ overflowed ∷ [])
+      writer_wins-fits = let long = due_full in
           let there = still_there in
           let more : length (tags ++ overflowed ∷ []) ≡ length tags + 1 = length-append tags (overflowed ∷ []) in
-          let below : length tags < length send.sent = omega arith in
-          let back = tagged_from-tag overflowed 0 tags overflowed send.sent below in
-          let same : 0 + length tags ≡ send.seen_read = omega arith in record {
-            words_fit = record {
-              sized = length-set words 0 (send.seen_read + 1) ∙ size;
-              read_position = get_or-set_same words 0 (send.seen_read + 1) 0 (omega arith) ∙ omega arith;
-              write_position = let n : 1 ≢ 0 = omega arith in get_or-set_other words 0 1 (send.seen_read + 1) 0 n ∙ W.write_position;
-              read_within = omega arith;
-              queued_in_slots = λ p from within. let n : slot_of buffer p ≢ 0 = omega arith in
-                  get_or-set_other words 0 (slot_of buffer p) (send.seen_read + 1) 0 n ∙ W.queued_in_slots p (omega arith) within;
-            };
-            sender_fits = record {
+          let below : length tags < length writer.sent = omega arith in
+          let back = tagged_positions-tag overflowed 0 tags overflowed writer.sent below in
+          let same : 0 + length tags ≡ writer.seen_read = omega arith in record {
+            words_fit = WordsFit-read slots words writer.sent (length tags) (length (tags ++ overflowed ∷ []))
+                (writer.seen_read + 1) W more (omega arith) below;
+            writer_fits = record {
               sized = X.sized;
-              returned_overflowed = ap (λ (l : List (ℕ × ℕ)). l ++ (send.seen_read, get_or send.sent send.seen_read 0) ∷ []) X.returned_overflowed
-                  ∙ ap (λ (k : ℕ × ℕ). tagged_from overflowed 0 tags send.sent ++ (k.0, get_or send.sent k.1 0) ∷ []) (λ i. (sym same i, sym there i)) ∙ sym back;
+              overflowed_tagged =
+                  ap (λ (l : List (ℕ × ℕ)). l ++ (writer.seen_read, get_or writer.sent writer.seen_read 0) ∷ [])
+                  X.overflowed_tagged
+                  ∙ ap (λ (k : ℕ × ℕ). tagged_positions overflowed 0 tags writer.sent
+                  ++ (k.0, get_or writer.sent k.1 0) ∷ [])
+                  (λ i. (sym same i, sym there i)) ∙ sym back;
               read_within = omega arith;
               room = λ d. omega arith;
               due_room = λ d. absurd (false≢true d);
@@ -248,9 +201,10 @@ module _ (buffer : ℕ) (words : List ℕ) (send : SendPass) (take : TakePass) (
               to_send_room = λ v is. absurd (due_not_pending v is);
               to_send_counts = λ v is. absurd (due_not_pending v is);
             };
-            taker_fits = record {
+            reader_fits = record {
               sized = Y.sized;
-              received_tagged = Y.received_tagged ∙ sym (append-nil (tagged_from received 0 tags send.sent)) ∙ sym (tagged_from-tag received 0 tags overflowed send.sent below);
+              received_tagged = Y.received_tagged ∙ sym (append-nil (tagged_positions received 0 tags writer.sent))
+                  ∙ sym (tagged_positions-tag received 0 tags overflowed writer.sent below);
               read_within = let h = Y.read_within in omega arith;
               write_within = Y.write_within;
               write_not_behind = Y.write_not_behind;
@@ -260,34 +214,34 @@ module _ (buffer : ℕ) (words : List ℕ) (send : SendPass) (take : TakePass) (
           }
 
     -- the taker has moved it on
-    module _ (miss : get_or words 0 0 ≢ send.seen_read) where
-      pub sender_loses : Fits buffer words (lost_exchange send) take tags
-      sender_loses = record {
-        words_fit = W;
-        sender_fits = record {
-          sized = X.sized;
-          returned_overflowed = X.returned_overflowed;
-          read_within = X.read_within;
-          room = λ d. let long = due_full in
-              let seen = X.read_within in
-              let shown = W.read_position in omega arith;
-          due_room = λ d. absurd (false≢true d);
-          due_read = λ d. absurd (false≢true d);
-          due_none_to_send = λ d. absurd (false≢true d);
-          to_send_in_slot = λ v is. absurd (due_not_pending v is);
-          to_send_room = λ v is. absurd (due_not_pending v is);
-          to_send_counts = λ v is. absurd (due_not_pending v is);
-        };
-        taker_fits = Y;
-      }
+    pub writer_loses-fits : get_or words 0 0 ≢ writer.seen_read
+        → Fits buffer words (after_lost_exchange writer) reader tags
+    writer_loses-fits miss = record {
+      words_fit = W;
+      writer_fits = record {
+        sized = X.sized;
+        overflowed_tagged = X.overflowed_tagged;
+        read_within = X.read_within;
+        room = λ d. let long = due_full in
+            let seen = X.read_within in
+            let shown = W.read_position in omega arith;
+        due_room = λ d. absurd (false≢true d);
+        due_read = λ d. absurd (false≢true d);
+        due_none_to_send = λ d. absurd (false≢true d);
+        to_send_in_slot = λ v is. absurd (due_not_pending v is);
+        to_send_room = λ v is. absurd (due_not_pending v is);
+        to_send_counts = λ v is. absurd (due_not_pending v is);
+      };
+      reader_fits = Y;
+    }
 
   -- ---- the taker
 
-  pub taker_looks_at_read : Fits buffer words send (looked_at_read (get_or words 0 0) take) tags
-  taker_looks_at_read = record {
+  pub reader_loads_read-fits : Fits buffer words writer (after_read_look (get_or words 0 0) reader) tags
+  reader_loads_read-fits = record {
     words_fit = W;
-    sender_fits = X;
-    taker_fits = record {
+    writer_fits = X;
+    reader_fits = record {
       sized = Y.sized;
       received_tagged = Y.received_tagged;
       read_within = let h = W.read_position in omega arith;
@@ -298,14 +252,15 @@ module _ (buffer : ℕ) (words : List ℕ) (send : SendPass) (take : TakePass) (
     };
   }
 
-  pub taker_looks_at_write : Fits buffer words send (looked_at_write (get_or words 1 0) take) tags
-  taker_looks_at_write = let shown = W.write_position in
+  pub reader_loads_write-fits : Fits buffer words writer (after_write_look (get_or words 1 0) reader) tags
+  reader_loads_write-fits = let shown = W.write_position in
       let within = W.read_within in
       let seen = Y.read_within in
-      let here : (write : ℕ) → Some (get_or words 1 0) ≡ Some write → write ≡ get_or words 1 0 = λ write is. cc in record {
+      let here : (write : ℕ) → Some (get_or words 1 0) ≡ Some write → write
+      ≡ get_or words 1 0 = λ write is. cc in record {
         words_fit = W;
-        sender_fits = X;
-        taker_fits = record {
+        writer_fits = X;
+        reader_fits = record {
           sized = Y.sized;
           received_tagged = Y.received_tagged;
           read_within = Y.read_within;
@@ -318,15 +273,15 @@ module _ (buffer : ℕ) (words : List ℕ) (send : SendPass) (take : TakePass) (
         };
       }
 
-  module _ (write : ℕ) (seen : take.seen_write ≡ Some write) (behind : take.seen_read < write) where
+  module _ (write : ℕ) (seen : reader.seen_write ≡ Some write) (behind : reader.seen_read < write) where
     abbrev its_slot : ℕ
-    its_slot = slot_of buffer take.seen_read
+    its_slot = slot_of slots reader.seen_read
 
-    pub taker_looks_at_slot : Fits buffer words send (looked_at_slot (get_or words its_slot 0) take) tags
-    taker_looks_at_slot = record {
+    pub reader_loads_slot-fits : Fits buffer words writer (after_slot_look (get_or words its_slot 0) reader) tags
+    reader_loads_slot-fits = record {
       words_fit = W;
-      sender_fits = X;
-      taker_fits = record {
+      writer_fits = X;
+      reader_fits = record {
         sized = Y.sized;
         received_tagged = Y.received_tagged;
         read_within = Y.read_within;
@@ -334,54 +289,59 @@ module _ (buffer : ℕ) (words : List ℕ) (send : SendPass) (take : TakePass) (
         write_not_behind = Y.write_not_behind;
         value_queued = λ value is. (write, seen, behind);
         value_sent = λ value is here. let within = Y.write_within write seen in
-            let first : get_or words its_slot 0 ≡ value = cc in sym (W.queued_in_slots take.seen_read (omega arith) (omega arith)) ∙ first;
+            let first : get_or words its_slot 0 ≡ value = cc in
+            sym (W.in_slots reader.seen_read (omega arith) (omega arith)) ∙ first;
       };
     }
 
-  module _ (value : ℕ) (loaded : take.seen_value ≡ Some value) where
+  module _ (value : ℕ) (loaded : reader.seen_value ≡ Some value) where
     -- the position that the taker loaded was sent
-    pub taken_within : take.seen_read < length send.sent
+    pub taken_within : reader.seen_read < length writer.sent
     taken_within = let q = Y.value_queued value loaded in
         let behind = q.2 in
         let within = Y.write_within q.0 q.1 in omega arith
 
-    module _ (hit : get_or words 0 0 ≡ take.seen_read) where
+    module _ (hit : get_or words 0 0 ≡ reader.seen_read) where
       abbrev passed : List ℕ
-      passed = set words 0 (take.seen_read + 1)
+      passed = set words 0 (reader.seen_read + 1)
 
-      pub taker_wins : Fits buffer passed send (took value take) (tags ++ received ∷ [])
-      taker_wins = let size = W.sized in
-          let there : length tags ≡ take.seen_read = sym W.read_position ∙ hit in
+      passed_fits : Fits buffer passed writer (record reader {
+        received = reader.received
+            ++ (reader.seen_read, value) ∷ [];
+        seen_write = None;
+        seen_value = None;
+      }) (tags ++ received ∷ [])
+      passed_fits = let there : length tags ≡ reader.seen_read = sym W.read_position ∙ hit in
           let within = taken_within in
           let more : length (tags ++ received ∷ []) ≡ length tags + 1 = length-append tags (received ∷ []) in
-          let below : length tags < length send.sent = omega arith in
-          let mine = tagged_from-tag received 0 tags received send.sent below in
-          let same : 0 + length tags ≡ take.seen_read = omega arith in
-          let is_value : get_or send.sent take.seen_read 0 ≡ value = Y.value_sent value loaded there in record {
-            words_fit = record {
-              sized = length-set words 0 (take.seen_read + 1) ∙ size;
-              read_position = get_or-set_same words 0 (take.seen_read + 1) 0 (omega arith) ∙ omega arith;
-              write_position = let n : 1 ≢ 0 = omega arith in get_or-set_other words 0 1 (take.seen_read + 1) 0 n ∙ W.write_position;
-              read_within = omega arith;
-              queued_in_slots = λ p from inside. let n : slot_of buffer p ≢ 0 = omega arith in
-                  get_or-set_other words 0 (slot_of buffer p) (take.seen_read + 1) 0 n ∙ W.queued_in_slots p (omega arith) inside;
-            };
-            sender_fits = record {
+          let below : length tags < length writer.sent = omega arith in
+          let mine = tagged_positions-tag received 0 tags received writer.sent below in
+          let same : 0 + length tags ≡ reader.seen_read = omega arith in
+          let is_value : get_or writer.sent reader.seen_read 0 ≡ value = Y.value_sent value loaded there in record {
+            words_fit = WordsFit-read slots words writer.sent (length tags) (length (tags ++ received ∷ []))
+                (reader.seen_read + 1) W more (omega arith) below;
+            writer_fits = record {
               sized = X.sized;
-              returned_overflowed = X.returned_overflowed ∙ sym (append-nil (tagged_from overflowed 0 tags send.sent)) ∙ sym (tagged_from-tag overflowed 0 tags received send.sent below);
+              overflowed_tagged = X.overflowed_tagged
+                  ∙ sym (append-nil (tagged_positions overflowed 0 tags writer.sent))
+                  ∙ sym (tagged_positions-tag overflowed 0 tags received writer.sent below);
               read_within = let h = X.read_within in omega arith;
               room = λ d. let h = X.room d in omega arith;
               due_room = λ d. let h = X.due_room d in omega arith;
               due_read = X.due_read;
               due_none_to_send = X.due_none_to_send;
-              to_send_in_slot = λ v is. let n : next_slot ≢ 0 = omega arith in get_or-set_other words 0 next_slot (take.seen_read + 1) 0 n ∙ X.to_send_in_slot v is;
+              to_send_in_slot = λ v is.
+                  slot-after_store slots words 0 (length writer.sent) (reader.seen_read + 1) (omega arith)
+                  ∙ X.to_send_in_slot v is;
               to_send_room = X.to_send_room;
               to_send_counts = X.to_send_counts;
             };
-            taker_fits = record {
+            reader_fits = record {
               sized = Y.sized;
-              received_tagged = ap (λ (l : List (ℕ × ℕ)). l ++ (take.seen_read, value) ∷ []) Y.received_tagged
-                  ∙ ap (λ (k : ℕ × ℕ). tagged_from received 0 tags send.sent ++ k ∷ []) (λ i. (sym same i, (sym is_value ∙ ap (λ (k : ℕ). get_or send.sent k 0) (sym there)) i)) ∙ sym mine;
+              received_tagged =
+                  ap (λ (l : List (ℕ × ℕ)). l ++ (reader.seen_read, value) ∷ []) Y.received_tagged
+                  ∙ ap (λ (k : ℕ × ℕ). tagged_positions received 0 tags writer.sent ++ k ∷ [])
+                  (λ i. (sym same i, (sym is_value ∙ ap (λ (k : ℕ). get_or writer.sent k 0) (sym there)) i)) ∙ sym mine;
               read_within = omega arith;
               write_within = λ write is. cc;
               write_not_behind = λ write is. cc;
@@ -390,11 +350,23 @@ module _ (buffer : ℕ) (words : List ℕ) (send : SendPass) (take : TakePass) (
             };
           }
 
-  pub taker_loses : Fits buffer words send (missed take) tags
-  taker_loses = record {
+      pub reader_wins-fits : Fits buffer passed writer (after_take reader) (tags ++ received ∷ [])
+      reader_wins-fits = subst
+          (λ (o : Option ℕ). Fits buffer passed writer
+          (record reader {
+            received = reader.received ++ map
+                (λ (v : ℕ). (reader.seen_read, v)) (option_to_list o);
+            seen_write = None;
+            seen_value = None;
+          })
+          (tags ++ received ∷ []))
+          (sym loaded) passed_fits
+
+  pub reader_loses-fits : Fits buffer words writer (after_miss reader) tags
+  reader_loses-fits = record {
     words_fit = W;
-    sender_fits = X;
-    taker_fits = record {
+    writer_fits = X;
+    reader_fits = record {
       sized = Y.sized;
       received_tagged = Y.received_tagged;
       read_within = Y.read_within;

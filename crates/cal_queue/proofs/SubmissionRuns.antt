@@ -1,89 +1,121 @@
--- Each step of a submission ring is an event of the channel that it shows, or none, and each run of steps is a schedule.
-use Rattle.std.proofs.Common.{◌≡◌, ◌≢◌, ℕ, ◌+◌, ◌<◌, Bool, true, false, cond, List, [], ◌∷◌, ◌++◌, length, get_or, set, replicate, Option, Some, None, eqb, ltb, refl, sym, ap, ◌∙◌, subst, arith, eq-eqb, eqb-true}
+-- Each step of a submission ring is an event of the state that it represents, or none.
+use Rattle.std.proofs.Common.{◌≡◌, ◌≢◌, ℕ, ◌+◌, ◌<◌, Bool, true, false, cond, List, [], ◌∷◌, ◌++◌, length, get_or, map, set, replicate, Option, Some, None, eqb, ltb, refl, sym, ap, ◌∙◌, subst, arith, eq-eqb, eqb-true}
 use Rattle.std.proofs.lemmas.Bool.{false≢true}
 use Rattle.std.proofs.lemmas.List.{length-replicate, get_or-replicate}
-use Rattle.cal_queue.specs.Channel.{Channel, Bounds, Event, sends, overflows, receives, after, IsSchedule}
-use Rattle.cal_queue.specs.SubmissionPass.{won_exchange, lost_exchange, took, missed, looked_at_slot}
-use Rattle.cal_queue.specs.SubmissionRule.{Fits, slot_of}
-use Rattle.cal_queue.specs.SubmissionLaw.{Moment, StepKind, sender_loads_read, sender_stores_slot, sender_stores_write, sender_exchanges_read, taker_loads_read, taker_loads_write, taker_loads_slot, taker_exchanges_read, MayStep, published, taken, found_ahead, stepped, sending, events_at, events_of, Shows, NewRingIsUnused, EachStepIsAnEvent, EachRunIsASchedule}
-use Rattle.cal_queue.proofs.Schedules.{IsSchedule-joined}
-use Rattle.cal_queue.proofs.SubmissionKeeps.{new_ring_fits, pending_room, due_full, taken_within}
+use Rattle.std.specs.Option.{option_to_list}
+use Rattle.cal_queue.specs.RingMachine.{LeadsTo, StepsAreEvents}
+use Rattle.cal_queue.specs.RingState.{Bounds, Event, IsSchedule, RingState, after_event, overflows, receives, sends, unused_state}
+use Rattle.cal_queue.specs.RingWords.{slot_of}
+use Rattle.cal_queue.specs.SubmissionLaw.{MayStep, Represents, RingMoment, RingStep, after_step, events_of, is_ahead, new_ring, reader_exchanges_read, reader_loads_read, reader_loads_slot, reader_loads_write, submission_machine, writer_exchanges_read, writer_loads_read, writer_stores_slot, writer_stores_write}
+use Rattle.cal_queue.specs.SubmissionPass.{after_lost_exchange, after_miss, after_slot_look, after_take, after_won_exchange}
+use Rattle.cal_queue.specs.SubmissionRule.{Fits}
+use Rattle.cal_queue.proofs.Schedules.{value_of}
+use Rattle.cal_queue.proofs.SubmissionKeeps.{new_ring-fits, pending_room, due_full, taken_within}
 use Rattle.cal_queue.proofs.SubmissionKeeps as keeps
 
-pub new_ring_is_unused : NewRingIsUnused
-new_ring_is_unused buffer = record {
+pub new_ring-unused : (buffer : ℕ) → Represents buffer (new_ring buffer) unused_state
+new_ring-unused buffer = record {
   sent = refl;
-  fits = new_ring_fits buffer (replicate (buffer + 3) 0) (length-replicate (buffer + 3) 0) (get_or-replicate (buffer + 3) 0 0 0 (omega arith)) (get_or-replicate (buffer + 3) 1 0 0 (omega arith));
+  fits = new_ring-fits buffer (replicate (buffer + 3) 0) (length-replicate (buffer + 3) 0)
+      (get_or-replicate (buffer + 3) 0 0 0 (omega arith)) (get_or-replicate (buffer + 3) 1 0 0 (omega arith));
 }
 
-module _ (b : Bounds) (m : Moment) (c : Channel) (shows : Shows b.buffer m c) where
-  abbrev F : Fits b.buffer m.words m.send m.take c.tags
+module _ (b : Bounds) (m : RingMoment) (c : RingState) (shows : Represents b.buffer m c) where
+  abbrev F : Fits b.buffer m.words m.writer m.reader c.tags
   F = shows.fits
 
-  -- these events lead to a channel that a later moment shows
-  abbrev LeadsTo : List Event → Moment → Type 0
-  LeadsTo events later = (d : Channel) × IsSchedule b c events d × Shows b.buffer later d
+  abbrev Leads : List Event → RingMoment → Type 0
+  Leads = LeadsTo (submission_machine b.buffer) b c
 
-  unchanged : (later : Moment) → later.send.sent ≡ m.send.sent → Fits b.buffer later.words later.send later.take c.tags → LeadsTo [] later
+  unchanged : (later : RingMoment) → later.writer.sent ≡ m.writer.sent
+      → Fits b.buffer later.words later.writer later.reader c.tags → Leads [] later
   unchanged later same fits = (c, refl, record { sent = shows.sent ∙ sym same; fits = fits })
 
-  publishes : (value : ℕ) → m.send.to_send ≡ Some value → LeadsTo (sends value ∷ []) (published m (Some value))
+  publishes : (value : ℕ) → m.writer.to_send ≡ Some value
+      → Leads (map sends (option_to_list m.writer.to_send)) (after_step b.buffer m writer_stores_write)
   publishes value pending =
-      let room = pending_room b.buffer m.words m.send m.take c.tags F value pending in
+      let room = pending_room b.buffer m.words m.writer m.reader c.tags F value pending in
       let long = ap length shows.sent in
-      (after c (sends value), (omega arith, refl), record { sent = ap (λ (l : List ℕ). l ++ value ∷ []) shows.sent; fits = keeps.sender_stores_write b.buffer m.words m.send m.take c.tags F value pending })
+      let d : RingState = after_event c (sends value) in (
+        d,
+        subst (λ (o : Option ℕ). IsSchedule b c (map sends (option_to_list o)) d) (sym pending) (omega arith, refl),
+        record {
+          sent = ap (λ (l : List ℕ). l ++ value ∷ []) shows.sent
+              ∙ ap (λ (o : Option ℕ). m.writer.sent ++ option_to_list o) (sym pending);
+          fits = keeps.writer_stores_write-fits b.buffer m.words m.writer m.reader c.tags F value pending;
+        },
+      )
 
-  displaces : m.send.exchange_due ≡ true → (hit : Bool) → eqb (get_or m.words 0 0) m.send.seen_read ≡ hit
-      → LeadsTo (cond hit (overflows ∷ []) [])
-      (cond hit (record { words = set m.words 0 (m.send.seen_read + 1); send = won_exchange m.send; take = m.take }) (record { words = m.words; send = lost_exchange m.send; take = m.take }))
-  displaces due true is =
+  exchanges : m.writer.exchange_due ≡ true → (hit : Bool) → eqb (get_or m.words 0 0) m.writer.seen_read ≡ hit
+      → Leads (cond hit (overflows ∷ []) [])
+      (cond hit (record m { words = set m.words 0 (m.writer.seen_read + 1); writer = after_won_exchange m.writer })
+      (record m { writer = after_lost_exchange m.writer }))
+  exchanges due true is =
       let there = eqb-true _ _ is in
-      let full = due_full b.buffer m.words m.send m.take c.tags F due in
+      let full = due_full b.buffer m.words m.writer m.reader c.tags F due in
       let shown = F.words_fit.read_position in
-      let long = ap length shows.sent in
-      (after c overflows, (omega arith, refl), record { sent = shows.sent; fits = keeps.sender_wins b.buffer m.words m.send m.take c.tags F due there })
-  displaces due false is =
-      let away : get_or m.words 0 0 ≢ m.send.seen_read = λ e. false≢true (sym is ∙ eq-eqb _ _ e) in
-      unchanged _ refl (keeps.sender_loses b.buffer m.words m.send m.take c.tags F due away)
+      let long = ap length shows.sent in (
+        after_event c overflows,
+        (omega arith, refl),
+        record {
+          sent = shows.sent;
+          fits = keeps.writer_wins-fits b.buffer m.words m.writer m.reader c.tags F due there;
+        },
+      )
+  exchanges due false is =
+      let away : get_or m.words 0 0 ≢ m.writer.seen_read = λ e. false≢true (sym is ∙ eq-eqb _ _ e) in
+      unchanged _ refl (keeps.writer_loses-fits b.buffer m.words m.writer m.reader c.tags F due away)
 
-  takes : (value : ℕ) → m.take.seen_value ≡ Some value → (hit : Bool) → eqb (get_or m.words 0 0) m.take.seen_read ≡ hit
-      → LeadsTo (cond hit (receives ∷ []) [])
-      (cond hit (record { words = set m.words 0 (m.take.seen_read + 1); send = m.send; take = took value m.take }) (record { words = m.words; send = m.send; take = missed m.take }))
+  takes : (value : ℕ) → m.reader.seen_value ≡ Some value → (hit : Bool) → eqb (get_or m.words 0 0) m.reader.seen_read
+      ≡ hit
+      → Leads (cond hit (receives ∷ []) [])
+      (cond hit (record m { words = set m.words 0 (m.reader.seen_read + 1); reader = after_take m.reader })
+      (record m { reader = after_miss m.reader }))
   takes value loaded true is =
       let there = eqb-true _ _ is in
-      let within = taken_within b.buffer m.words m.send m.take c.tags F value loaded in
+      let within = taken_within b.buffer m.words m.writer m.reader c.tags F value loaded in
       let shown = F.words_fit.read_position in
-      let long = ap length shows.sent in
-      (after c receives, (omega arith, refl), record { sent = shows.sent; fits = keeps.taker_wins b.buffer m.words m.send m.take c.tags F value loaded there })
-  takes value loaded false is = unchanged _ refl (keeps.taker_loses b.buffer m.words m.send m.take c.tags F)
+      let long = ap length shows.sent in (
+        after_event c receives,
+        (omega arith, refl),
+        record {
+          sent = shows.sent;
+          fits = keeps.reader_wins-fits b.buffer m.words m.writer m.reader c.tags F value loaded there;
+        },
+      )
+  takes value loaded false is =
+      unchanged _ refl (keeps.reader_loses-fits b.buffer m.words m.writer m.reader c.tags F)
 
-  looks_at_slot : (write : Option ℕ) → m.take.seen_write ≡ write → (ahead : Bool) → found_ahead m.take.seen_read write ≡ ahead
-      → LeadsTo [] (cond ahead (record { words = m.words; send = m.send; take = looked_at_slot (get_or m.words (slot_of b.buffer m.take.seen_read) 0) m.take }) m)
+  looks_at_slot : (write : Option ℕ) → m.reader.seen_write ≡ write
+      → (ahead : Bool) → is_ahead m.reader.seen_read write ≡ ahead
+      → Leads []
+      (cond ahead (record m {
+        reader = after_slot_look (get_or m.words (slot_of (b.buffer + 1) m.reader.seen_read) 0)
+            m.reader;
+      }) m)
   looks_at_slot None seen true is = absurd (false≢true is)
   looks_at_slot None seen false is = unchanged m refl F
-  looks_at_slot (Some write) seen true is = unchanged _ refl (keeps.taker_looks_at_slot b.buffer m.words m.send m.take c.tags F write seen (ltb-below m.take.seen_read write is))
+  looks_at_slot (Some write) seen true is = unchanged _ refl
+      (keeps.reader_loads_slot-fits b.buffer m.words m.writer m.reader c.tags F write seen
+      (ltb-below m.reader.seen_read write is))
     where
       ltb-below : (x y : ℕ) → ltb x y ≡ true → x < y
       ltb-below x y t = grind (arith, t)
   looks_at_slot (Some write) seen false is = unchanged m refl F
 
-  pub step_is_an_event : (k : StepKind) → MayStep b.buffer m k → LeadsTo (events_at m k) (stepped b.buffer m k)
-  step_is_an_event sender_loads_read idle = unchanged _ refl (keeps.sender_looks b.buffer m.words m.send m.take c.tags F idle)
-  step_is_an_event (sender_stores_slot value) may = unchanged _ refl (keeps.sender_stores_slot b.buffer m.words m.send m.take c.tags F may.0 value may.1 may.2)
-  step_is_an_event sender_stores_write may = subst (λ (o : Option ℕ). LeadsTo (sending o) (published m o)) (sym may.1) (publishes may.0 may.1)
-  step_is_an_event sender_exchanges_read due = displaces due _ refl
-  step_is_an_event taker_loads_read may = unchanged _ refl (keeps.taker_looks_at_read b.buffer m.words m.send m.take c.tags F)
-  step_is_an_event taker_loads_write may = unchanged _ refl (keeps.taker_looks_at_write b.buffer m.words m.send m.take c.tags F)
-  step_is_an_event taker_loads_slot may = looks_at_slot m.take.seen_write refl _ refl
-  step_is_an_event taker_exchanges_read may =
-      subst (λ (o : Option ℕ). LeadsTo (events_at m taker_exchanges_read) (taken m o)) (sym may.1) (takes may.0 may.1 _ refl)
+  pub step_is_an_event : (s : RingStep) → MayStep b.buffer m s → Leads (events_of m s) (after_step b.buffer m s)
+  step_is_an_event writer_loads_read idle =
+      unchanged _ refl (keeps.writer_loads_read-fits b.buffer m.words m.writer m.reader c.tags F idle)
+  step_is_an_event (writer_stores_slot value) may = unchanged _ refl
+      (keeps.writer_stores_slot-fits b.buffer m.words m.writer m.reader c.tags F may.0 value may.1 may.2)
+  step_is_an_event writer_stores_write may = let v = value_of m.writer.to_send may in publishes v.0 v.1
+  step_is_an_event writer_exchanges_read due = exchanges due _ refl
+  step_is_an_event reader_loads_read may =
+      unchanged _ refl (keeps.reader_loads_read-fits b.buffer m.words m.writer m.reader c.tags F)
+  step_is_an_event reader_loads_write may =
+      unchanged _ refl (keeps.reader_loads_write-fits b.buffer m.words m.writer m.reader c.tags F)
+  step_is_an_event reader_loads_slot may = looks_at_slot m.reader.seen_write refl _ refl
+  step_is_an_event reader_exchanges_read may = let v = value_of m.reader.seen_value may in takes v.0 v.1 _ refl
 
-pub each_step_is_an_event : EachStepIsAnEvent
-each_step_is_an_event b m c k shows may = step_is_an_event b m c shows k may
-
-pub each_run_is_a_schedule : EachRunIsASchedule
-each_run_is_a_schedule b m last c [] shows run = (c, refl, subst (λ (x : Moment). Shows b.buffer x c) run shows)
-each_run_is_a_schedule b m last c (k ∷ ks) shows run =
-    let one = step_is_an_event b m c shows k run.0 in
-    let rest = each_run_is_a_schedule b (stepped b.buffer m k) last one.0 ks one.2 run.1 in
-    (rest.0, IsSchedule-joined b c one.0 rest.0 (events_at m k) (events_of b.buffer (stepped b.buffer m k) ks) one.1 rest.1, rest.2)
+pub steps_are_events : (b : Bounds) → StepsAreEvents (submission_machine b.buffer) b
+steps_are_events b m c s shows may = step_is_an_event b m c shows s may

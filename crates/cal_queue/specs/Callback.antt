@@ -13,7 +13,8 @@ module _ {F A : Type 0} (calls : Mut F (A × Unit {0}) (Unit {0})) where
   -- the callback may be called on each of these values, in every state that the calls on the values
   -- before it lead to
   pub record MayRunOver (first : F) (xs : List A) : Type 0 where
-    pub at : (before after : List A) (x : A) (now : F) → xs ≡ before ++ x ∷ after → LeadsTo first before now → calls.pre now (x, tt)
+    pub at : (before after : List A) (x : A) (now : F) → xs ≡ before ++ x ∷ after → LeadsTo first before now →
+        calls.pre now (x, tt)
 
   -- calls on these values, one each and in this order, were made
   abbrev pub RunsOver : F → List A → Type 0
@@ -21,7 +22,8 @@ module _ {F A : Type 0} (calls : Mut F (A × Unit {0}) (Unit {0})) where
 
 module _ {F A : Type 0} (calls : Mut F (A × Unit {0}) (Unit {0})) where
   -- a callback that may always be called stays so, whatever calls are made
-  always_mut-after : (first last : F) (xs : List A) → always_mut calls first → LeadsTo calls first xs last → always_mut calls last
+  always_mut-after : (first last : F) (xs : List A) → always_mut calls first → LeadsTo calls first xs last →
+      always_mut calls last
   always_mut-after first last [] always ends = subst (always_mut calls) ends always
   always_mut-after first last (x ∷ xs) always ran =
       always_mut-after ran.0 last xs (mut_next calls first (x, tt) tt ran.0 ran.0 ran.1 refl always) ran.2

@@ -12,25 +12,25 @@ abbrev pub new_get_pass : ℕ → GetPass
 new_get_pass capacity = record { capacity = capacity; got = []; seen_write = 0; loads = 0; seen_value = None }
 
 -- the putting end has loaded the read position
-abbrev pub loaded_read : ℕ → PutPass → PutPass
-loaded_read position p = record p { seen_read = position; loads = p.loads + 1 }
+abbrev pub after_read_load : ℕ → PutPass → PutPass
+after_read_load position p = record p { seen_read = position; loads = p.loads + 1 }
 
 -- the putting end has stored a value into the slot of the next position
-abbrev pub stored_slot : ℕ → PutPass → PutPass
-stored_slot value p = record p { to_put = Some value }
+abbrev pub after_slot_store : ℕ → PutPass → PutPass
+after_slot_store value p = record p { to_put = Some value }
 
 -- the putting end has stored the write position, so that the value that was to be put is put
-abbrev pub stored_write : PutPass → PutPass
-stored_write p = record p { put = p.put ++ option_to_list p.to_put; to_put = None }
+abbrev pub after_write_store : PutPass → PutPass
+after_write_store p = record p { put = p.put ++ option_to_list p.to_put; to_put = None }
 
 -- the getting end has loaded the write position, and a value that it had loaded before is forgotten
-abbrev pub loaded_write : ℕ → GetPass → GetPass
-loaded_write position p = record p { seen_write = position; seen_value = None; loads = p.loads + 1 }
+abbrev pub after_write_look : ℕ → GetPass → GetPass
+after_write_look position p = record p { seen_write = position; seen_value = None; loads = p.loads + 1 }
 
 -- the getting end has loaded the slot of the read position
-abbrev pub loaded_slot : ℕ → GetPass → GetPass
-loaded_slot value p = record p { seen_value = Some value }
+abbrev pub after_slot_look : ℕ → GetPass → GetPass
+after_slot_look value p = record p { seen_value = Some value }
 
 -- the getting end has stored the read position, so that the value that it loaded is its own
-abbrev pub stored_read : GetPass → GetPass
-stored_read p = record p { got = p.got ++ option_to_list p.seen_value; seen_value = None }
+abbrev pub after_read_store : GetPass → GetPass
+after_read_store p = record p { got = p.got ++ option_to_list p.seen_value; seen_value = None }

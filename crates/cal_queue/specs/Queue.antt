@@ -27,17 +27,17 @@ abbrev pub oldest : Queue → Option ℕ
 oldest q = slice_get q.values 0
 
 -- the queue once its oldest value has left; an empty queue stays as it is
-abbrev pub popped : Queue → Queue
-popped q = record q { values = drop 1 q.values }
+abbrev pub after_pop : Queue → Queue
+after_pop q = record q { values = drop 1 q.values }
 
 -- the queue once a value has joined it as its last
-abbrev pub pushed : Queue → ℕ → Queue
-pushed q value = record q { values = q.values ++ value ∷ [] }
+abbrev pub after_push : Queue → ℕ → Queue
+after_push q value = record q { values = q.values ++ value ∷ [] }
 
 -- the value that has to leave before another may join
-abbrev pub displaced : Queue → Option ℕ
-displaced q = if is_full q then oldest q else None
+abbrev pub overflow_of : Queue → Option ℕ
+overflow_of q = if is_full q then oldest q else None
 
 -- the queue once another value may join
 abbrev pub with_room : Queue → Queue
-with_room q = if is_full q then popped q else q
+with_room q = if is_full q then after_pop q else q

@@ -4,12 +4,12 @@ use Rattle.cal_queue.specs.declared.reserve_refusal.ReserveRefusal.{ReserveRefus
 use Rattle.cal_queue.specs.declared.reserve_refusal.ReserveRefusal.TheVariants.{AlreadyConnected, BeingCleanedUp}
 use Rattle.cal_queue.specs.declared.state_table.pass.StateStep.{StateStep}
 use Rattle.cal_queue.specs.declared.state_table.pass.StatePass.{StatePass}
-use Rattle.cal_queue.specs.StateTable.{has_bit, looked, mark, port_place, wrote}
+use Rattle.cal_queue.specs.StateTable.{has_bit, load_step, mark, port_index, write_step}
 
 -- steps at the port word that wrote nothing
 abbrev pub AreLooks : List StateStep → Type 0
 AreLooks [] = Unit {0}
-AreLooks (s ∷ steps) = (s.place ≡ port_place) × (s.written ≡ None) × AreLooks steps
+AreLooks (s ∷ steps) = (s.index ≡ port_index) × (s.written ≡ None) × AreLooks steps
 
 -- the call looked at the port word some times, and did nothing else
 pub record OnlyLooked (before after : StatePass) : Type 0 where
@@ -30,23 +30,25 @@ pub record Reserved (bit : ℕ) (before after : StatePass) : Type 0 where
   pub seen : ℕ
   pub absent : has_bit seen bit ≡ false
   pub unmarked : has_bit seen mark ≡ false
-  pub steps : EndsWith before after (wrote port_place seen (seen + bit))
+  pub steps : EndsWith before after (write_step port_index seen (seen + bit))
 
 -- the last step saw the word that the refusal carries, and no step wrote: the bit is there, or else the mark is
 abbrev pub Refused : ℕ → ReserveRefusal → StatePass → StatePass → Type 0
-Refused bit (AlreadyConnected seen) before after = (has_bit seen bit ≡ true) × EndsWith before after (looked port_place seen)
-Refused bit (BeingCleanedUp seen) before after = (has_bit seen bit ≡ false) × (has_bit seen mark ≡ true) × EndsWith before after (looked port_place seen)
+Refused bit (AlreadyConnected seen) before after = (has_bit seen bit ≡ true)
+    × EndsWith before after (load_step port_index seen)
+Refused bit (BeingCleanedUp seen) before after = (has_bit seen bit ≡ false) × (has_bit seen mark ≡ true)
+    × EndsWith before after (load_step port_index seen)
 
 -- the last step took the word that was the bit alone to the mark
 abbrev pub LeftMark : ℕ → StatePass → StatePass → Type 0
-LeftMark bit before after = EndsWith before after (wrote port_place bit mark)
+LeftMark bit before after = EndsWith before after (write_step port_index bit mark)
 
 -- the last step took the bit from the word with both bits
 abbrev pub LeftOther : ℕ → StatePass → StatePass → Type 0
-LeftOther bit before after = EndsWith before after (wrote port_place 3 (3 - bit))
+LeftOther bit before after = EndsWith before after (write_step port_index 3 (3 - bit))
 
 -- the last step saw a word without the bit, and no step wrote
 pub record WasAbsent (bit : ℕ) (before after : StatePass) : Type 0 where
   pub seen : ℕ
   pub absent : has_bit seen bit ≡ false
-  pub steps : EndsWith before after (looked port_place seen)
+  pub steps : EndsWith before after (load_step port_index seen)

@@ -37,45 +37,46 @@ pub record LeavesMark (bit seen written : ℕ) : Type 0 where
 
 -- the changes of a port word
 abbrev pub MayChange : ℕ → ℕ → Type 0
-MayChange seen written = (bit : ℕ) × IsPortBit bit × (Joins bit seen written ⊎ (LeavesOther bit seen written ⊎ LeavesMark bit seen written))
+MayChange seen written = (bit : ℕ) × IsPortBit bit
+    × (Joins bit seen written ⊎ (LeavesOther bit seen written ⊎ LeavesMark bit seen written))
 
--- the place of the port word, and that of a channel's word
-abbrev pub port_place : ℕ
-port_place = 0
+-- the index of the port word, and that of a channel's word
+abbrev pub port_index : ℕ
+port_index = 0
 
-abbrev pub channel_place : ℕ → ℕ
-channel_place channel = channel + 1
+abbrev pub channel_index : ℕ → ℕ
+channel_index channel = channel + 1
 
 -- the words when the table is made
 abbrev pub opening_words : OpeningWords → List ℕ
 opening_words o = o.port ∷ replicate o.channels o.initial
 
 -- a step that wrote nothing, and one that wrote a word
-abbrev pub looked : ℕ → ℕ → StateStep
-looked place seen = record { place = place; seen = seen; written = None }
+abbrev pub load_step : ℕ → ℕ → StateStep
+load_step index seen = record { index = index; seen = seen; written = None }
 
-abbrev pub wrote : ℕ → ℕ → ℕ → StateStep
-wrote place seen word = record { place = place; seen = seen; written = Some word }
+abbrev pub write_step : ℕ → ℕ → ℕ → StateStep
+write_step index seen word = record { index = index; seen = seen; written = Some word }
 
 -- an exchange writes exactly where it sees the word that it expects
-abbrev pub exchanged : ℕ → ℕ → ℕ → ℕ → StateStep
-exchanged place expected word seen = if seen == expected then wrote place seen word else looked place seen
+abbrev pub exchange_step : ℕ → ℕ → ℕ → ℕ → StateStep
+exchange_step index expected word seen = if seen == expected then write_step index seen word else load_step index seen
 
--- the words after a step: at its place stands what it wrote, or else what it saw
+-- the words after a step: at its index stands what it wrote, or else what it saw
 abbrev pub words_after : List ℕ → StateStep → List ℕ
-words_after words s = slice_set words s.place (unwrap_or s.written s.seen)
+words_after words s = slice_set words s.index (unwrap_or s.written s.seen)
 
--- a step that may be taken at these words: it sees the word at its place, and changes a port word only
+-- a step that may be taken at these words: it sees the word at its index, and changes a port word only
 -- in one of the three ways
-pub record MayTake (words : List ℕ) (s : StateStep) : Type 0 where
-  pub within : s.place < length words
-  pub sees : s.seen ≡ slice_index words s.place
-  pub changes : s.place ≡ port_place → IfSome s.written (MayChange s.seen)
+pub record MayStep (words : List ℕ) (s : StateStep) : Type 0 where
+  pub within : s.index < length words
+  pub sees : s.seen ≡ slice_index words s.index
+  pub changes : s.index ≡ port_index → IfSome s.written (MayChange s.seen)
 
 -- steps that may be taken one after the other lead from the first words to the last
 abbrev pub IsRun : List ℕ → List StateStep → List ℕ → Type 0
 IsRun first [] last = last ≡ first
-IsRun first (s ∷ steps) last = MayTake first s × IsRun (words_after first s) steps last
+IsRun first (s ∷ steps) last = MayStep first s × IsRun (words_after first s) steps last
 
 -- a step, and the number of the seat that took it
 pub record TakenStep : Type 0 where
@@ -91,15 +92,15 @@ steps_of by [] = []
 steps_of by (t ∷ taken) = if t.by == by then (t.step ∷ steps_of by taken) else steps_of by taken
 
 -- the pass of a seat that has taken no step
-abbrev pub fresh : OpeningWords → StatePass
-fresh o = record { opening = o; steps = [] }
+abbrev pub new_pass : OpeningWords → StatePass
+new_pass o = record { opening = o; steps = [] }
 
-abbrev pub unused : ℕ → ℕ → ℕ → StatePass
-unused port channels initial = fresh (record { port = port; initial = initial; channels = channels })
+abbrev pub new_pass_of : ℕ → ℕ → ℕ → StatePass
+new_pass_of port channels initial = new_pass (record { port = port; initial = initial; channels = channels })
 
 -- the pass after one more step
-abbrev pub took : StatePass → StateStep → StatePass
-took p s = record { opening = p.opening; steps = p.steps ++ s ∷ [] }
+abbrev pub after_step : StatePass → StateStep → StatePass
+after_step p s = record { opening = p.opening; steps = p.steps ++ s ∷ [] }
 
 -- the last step of a pass ends a run of the steps of all seats from the opening words, in which the
 -- steps of the pass are those of one seat

@@ -1,119 +1,97 @@
--- The submission ring as a machine: its moments, the steps of its two ends in any order, and the channel that each moment
--- shows.
-use Rattle.std.specs.Prelude.{◌≡◌, ℕ, ◌+◌, ◌-◌, ◌^◌, ◌<◌, ◌≤◌, ◌==◌, Bool, true, false, List, [], ◌∷◌, ◌++◌, length, replicate, slice_index, slice_set, Option, Some, None, nat_lt, if◌then◌else◌, ⊤}
-use Rattle.cal_queue.specs.Channel.{Channel, unused, Bounds, Event, sends, overflows, receives, IsSchedule}
-use Rattle.cal_queue.specs.SubmissionPass.{new_send_pass, new_take_pass, loaded_read, stored_slot, stored_write, won_exchange, lost_exchange, looked_at_read, looked_at_write, looked_at_slot, took, missed, IsIdle}
-use Rattle.cal_queue.specs.SubmissionRule.{Fits, slot_of}
+-- The submission ring as a machine: its steps, when each may be taken, the moment after it, the event that it means,
+-- and the states that its moments represent.
+use Rattle.std.specs.Prelude.{◌≡◌, ℕ, ◌+◌, ◌-◌, ◌^◌, ◌<◌, ◌≤◌, ◌==◌, Bool, true, false, List, [], ◌∷◌, length, map, replicate, slice_index, slice_set, Option, Some, None, IsSome, nat_lt, if◌then◌else◌, ⊤}
+use Rattle.std.specs.Option.{option_to_list}
+use Rattle.cal_queue.specs.RingMachine.{Machine, Moment}
+use Rattle.cal_queue.specs.RingState.{Event, RingState, overflows, receives, sends}
+use Rattle.cal_queue.specs.RingWords.{slot_of}
+use Rattle.cal_queue.specs.SubmissionPass.{IsIdle, after_lost_exchange, after_miss, after_read_load, after_read_look, after_slot_look, after_slot_store, after_take, after_won_exchange, after_write_look, after_write_store, new_send_pass, new_take_pass}
+use Rattle.cal_queue.specs.SubmissionRule.{Fits}
 use Rattle.cal_queue.specs.declared.submission_ring.pass.SendPass.{SendPass}
 use Rattle.cal_queue.specs.declared.submission_ring.pass.TakePass.{TakePass}
 
--- what there is between two steps: the words, and what each end knows
-pub record Moment : Type 0 where
-  pub words : List ℕ
-  pub send : SendPass
-  pub take : TakePass
+abbrev pub RingMoment : Type 0
+RingMoment = Moment SendPass TakePass
 
-abbrev pub new_ring : ℕ → Moment
-new_ring buffer = record { words = replicate (buffer + 3) 0; send = new_send_pass buffer; take = new_take_pass buffer }
+abbrev pub new_ring : ℕ → RingMoment
+new_ring buffer =
+    record { words = replicate (buffer + 3) 0; writer = new_send_pass buffer; reader = new_take_pass buffer }
 
-pub data StepKind : Type 0 where
-  sender_loads_read : StepKind
-  sender_stores_slot : ℕ → StepKind
-  sender_stores_write : StepKind
-  sender_exchanges_read : StepKind
-  taker_loads_read : StepKind
-  taker_loads_write : StepKind
-  taker_loads_slot : StepKind
-  taker_exchanges_read : StepKind
+-- the steps of the sending end, and then those of the taking end
+pub data RingStep : Type 0 where
+  writer_loads_read : RingStep
+  writer_stores_slot : ℕ → RingStep
+  writer_stores_write : RingStep
+  writer_exchanges_read : RingStep
+  reader_loads_read : RingStep
+  reader_loads_write : RingStep
+  reader_loads_slot : RingStep
+  reader_exchanges_read : RingStep
 
--- when an end may make a step, by its own pass alone
-abbrev pub MayStep : ℕ → Moment → StepKind → Type 0
-MayStep buffer m sender_loads_read = IsIdle m.send
-MayStep buffer m (sender_stores_slot value) = IsIdle m.send × (length m.send.sent ≤ m.send.seen_read + buffer) × (length m.send.sent < 2 ^ 64 - 1)
-MayStep buffer m sender_stores_write = (value : ℕ) × (m.send.to_send ≡ Some value)
-MayStep buffer m sender_exchanges_read = m.send.exchange_due ≡ true
-MayStep buffer m taker_loads_read = ⊤
-MayStep buffer m taker_loads_write = ⊤
-MayStep buffer m taker_loads_slot = ⊤
-MayStep buffer m taker_exchanges_read = (value : ℕ) × (m.take.seen_value ≡ Some value)
-
--- the moment after the write position was stored, where a value was to be sent
-abbrev pub published : Moment → Option ℕ → Moment
-published m None = m
-published m (Some value) = record { words = slice_set m.words 1 (length m.send.sent + 1); send = stored_write value m.send; take = m.take }
+-- when an end may take a step, by its own pass alone
+abbrev pub MayStep : ℕ → RingMoment → RingStep → Type 0
+MayStep buffer m writer_loads_read = IsIdle m.writer
+MayStep buffer m (writer_stores_slot value) =
+    IsIdle m.writer × (length m.writer.sent ≤ m.writer.seen_read + buffer) × (length m.writer.sent < 2 ^ 64 - 1)
+MayStep buffer m writer_stores_write = IsSome m.writer.to_send
+MayStep buffer m writer_exchanges_read = m.writer.exchange_due ≡ true
+MayStep buffer m reader_loads_read = ⊤
+MayStep buffer m reader_loads_write = ⊤
+MayStep buffer m reader_loads_slot = ⊤
+MayStep buffer m reader_exchanges_read = IsSome m.reader.seen_value
 
 -- whether the taker has found the write position ahead of the read position
-abbrev pub found_ahead : ℕ → Option ℕ → Bool
-found_ahead read None = false
-found_ahead read (Some write) = nat_lt read write
+abbrev pub is_ahead : ℕ → Option ℕ → Bool
+is_ahead read None = false
+is_ahead read (Some write) = nat_lt read write
 
--- the moment after the taker's exchange, where it has loaded a value
-abbrev pub taken : Moment → Option ℕ → Moment
-taken m None = m
-taken m (Some value) =
-    if slice_index m.words 0 == m.take.seen_read
-    then record { words = slice_set m.words 0 (m.take.seen_read + 1); send = m.send; take = took value m.take }
-    else record { words = m.words; send = m.send; take = missed m.take }
-
--- the moment after a step
-abbrev pub stepped : ℕ → Moment → StepKind → Moment
-stepped buffer m sender_loads_read = record { words = m.words; send = loaded_read (slice_index m.words 0) m.send; take = m.take }
-stepped buffer m (sender_stores_slot value) = record { words = slice_set m.words (slot_of buffer (length m.send.sent)) value; send = stored_slot value m.send; take = m.take }
-stepped buffer m sender_stores_write = published m m.send.to_send
-stepped buffer m sender_exchanges_read =
-    if slice_index m.words 0 == m.send.seen_read
-    then record { words = slice_set m.words 0 (m.send.seen_read + 1); send = won_exchange m.send; take = m.take }
-    else record { words = m.words; send = lost_exchange m.send; take = m.take }
-stepped buffer m taker_loads_read = record { words = m.words; send = m.send; take = looked_at_read (slice_index m.words 0) m.take }
-stepped buffer m taker_loads_write = record { words = m.words; send = m.send; take = looked_at_write (slice_index m.words 1) m.take }
-stepped buffer m taker_loads_slot =
-    if found_ahead m.take.seen_read m.take.seen_write
-    then record { words = m.words; send = m.send; take = looked_at_slot (slice_index m.words (slot_of buffer m.take.seen_read)) m.take }
+-- the moment after a step. An exchange is won where the read position is still the one that was loaded, and a slot is
+-- loaded where the write position was found ahead
+abbrev pub after_step : ℕ → RingMoment → RingStep → RingMoment
+after_step buffer m writer_loads_read = record m { writer = after_read_load (slice_index m.words 0) m.writer }
+after_step buffer m (writer_stores_slot value) = record m {
+  words = slice_set m.words (slot_of (buffer + 1) (length m.writer.sent)) value;
+  writer = after_slot_store value m.writer;
+}
+after_step buffer m writer_stores_write =
+    record m { words = slice_set m.words 1 (length m.writer.sent + 1); writer = after_write_store m.writer }
+after_step buffer m writer_exchanges_read =
+    if slice_index m.words 0 == m.writer.seen_read
+    then record m { words = slice_set m.words 0 (m.writer.seen_read + 1); writer = after_won_exchange m.writer }
+    else record m { writer = after_lost_exchange m.writer }
+after_step buffer m reader_loads_read = record m { reader = after_read_look (slice_index m.words 0) m.reader }
+after_step buffer m reader_loads_write = record m { reader = after_write_look (slice_index m.words 1) m.reader }
+after_step buffer m reader_loads_slot =
+    if is_ahead m.reader.seen_read m.reader.seen_write
+    then record m { reader = after_slot_look (slice_index m.words (slot_of (buffer + 1) m.reader.seen_read)) m.reader }
     else m
-stepped buffer m taker_exchanges_read = taken m m.take.seen_value
+after_step buffer m reader_exchanges_read =
+    if slice_index m.words 0 == m.reader.seen_read
+    then record m { words = slice_set m.words 0 (m.reader.seen_read + 1); reader = after_take m.reader }
+    else record m { reader = after_miss m.reader }
 
--- a value that is to be sent is sent
-abbrev pub sending : Option ℕ → List Event
-sending None = []
-sending (Some value) = sends value ∷ []
+-- the event of each step: the store of the write position sends, an exchange that the sender wins overflows, one that
+-- the taker wins receives, and no other step is an event
+abbrev pub events_of : RingMoment → RingStep → List Event
+events_of m writer_loads_read = []
+events_of m (writer_stores_slot value) = []
+events_of m writer_stores_write = map sends (option_to_list m.writer.to_send)
+events_of m writer_exchanges_read = if slice_index m.words 0 == m.writer.seen_read then overflows ∷ [] else []
+events_of m reader_loads_read = []
+events_of m reader_loads_write = []
+events_of m reader_loads_slot = []
+events_of m reader_exchanges_read = if slice_index m.words 0 == m.reader.seen_read then receives ∷ [] else []
 
--- what a step means for the channel: one event, or none
-abbrev pub events_at : Moment → StepKind → List Event
-events_at m sender_loads_read = []
-events_at m (sender_stores_slot value) = []
-events_at m sender_stores_write = sending m.send.to_send
-events_at m sender_exchanges_read = if slice_index m.words 0 == m.send.seen_read then overflows ∷ [] else []
-events_at m taker_loads_read = []
-events_at m taker_loads_write = []
-events_at m taker_loads_slot = []
-events_at m taker_exchanges_read = if slice_index m.words 0 == m.take.seen_read then receives ∷ [] else []
+-- a moment represents a state: its values are those sent, and its tags fit the words and both passes. What is released
+-- and reclaimed there is another ring's to represent
+pub record Represents (buffer : ℕ) (m : RingMoment) (c : RingState) : Type 0 where
+  pub sent : c.sent ≡ m.writer.sent
+  pub fits : Fits buffer m.words m.writer m.reader c.tags
 
--- steps of both ends, in any order, lead from one moment to another
-abbrev pub IsRun : ℕ → Moment → List StepKind → Moment → Type 0
-IsRun buffer m [] last = m ≡ last
-IsRun buffer m (k ∷ ks) last = MayStep buffer m k × IsRun buffer (stepped buffer m k) ks last
-
--- the events of all these steps
-abbrev pub events_of : ℕ → Moment → List StepKind → List Event
-events_of buffer m [] = []
-events_of buffer m (k ∷ ks) = events_at m k ++ events_of buffer (stepped buffer m k) ks
-
--- a moment shows a channel: its values are those sent, and its tags fit the words and both passes. What is released and
--- reclaimed on it is another ring's to show
-pub record Shows (buffer : ℕ) (m : Moment) (c : Channel) : Type 0 where
-  pub sent : c.sent ≡ m.send.sent
-  pub fits : Fits buffer m.words m.send m.take c.tags
-
--- a new ring shows the unused channel
-abbrev pub NewRingIsUnused : Type 0
-NewRingIsUnused = (buffer : ℕ) → Shows buffer (new_ring buffer) unused
-
--- from any moment that shows a channel, each step is an event that may happen on it, or none
-abbrev pub EachStepIsAnEvent : Type 0
-EachStepIsAnEvent = (b : Bounds) (m : Moment) (c : Channel) (k : StepKind) → Shows b.buffer m c → MayStep b.buffer m k
-    → (d : Channel) × IsSchedule b c (events_at m k) d × Shows b.buffer (stepped b.buffer m k) d
-
--- so each run of steps, however the two ends take turns, is a schedule of the channel
-abbrev pub EachRunIsASchedule : Type 0
-EachRunIsASchedule = (b : Bounds) (m last : Moment) (c : Channel) (ks : List StepKind) → Shows b.buffer m c → IsRun b.buffer m ks last
-    → (d : Channel) × IsSchedule b c (events_of b.buffer m ks) d × Shows b.buffer last d
+abbrev pub submission_machine : ℕ → Machine RingMoment RingStep
+submission_machine buffer = record {
+  may = MayStep buffer;
+  after = after_step buffer;
+  events = events_of;
+  represents = Represents buffer;
+}

@@ -1,52 +1,51 @@
-//! The ring by which a receiver gives chunks back to their sender, each side in a thread of its own
-//! and without a lock. The layer above may rely on values being got in the order in which they were
-//! put, each once, on no call waiting for the other side, and on `rest_completion`, which joins
-//! both ends and says that what was got is the beginning of what was put.
+//! The ring by which a receiver gives chunks back to their sender, in place of the original's `index_queue` (`spsc` of
+//! iceoryx2-bb-lock-free). One end puts and the other gets, each from a thread of its own and without a lock. The layer
+//! above may rely on values being got in the order in which they were put, each once, on no call waiting for the other
+//! side, and on `rest_completion`, which joins both ends and says that what was got is the beginning of what was put.
 ghost use Rattle.std.specs.Prelude.{◌≡◌, ◌^◌, ◌<◌, ◌≤◌, IfOk};
-ghost use Rattle.cal_queue.specs.CompletionCalls.{AreEndsOfOneRing, get_pass, put_pass};
+ghost use Rattle.cal_queue.specs.CompletionCalls.{IsOneRing, get_pass, put_pass};
 ghost use Rattle.cal_queue.specs.CompletionPass.{new_get_pass, new_put_pass};
 
 mod get_seat;
 mod get_steps;
 mod getting;
 mod interleavings;
-mod meeting;
 mod pass;
 mod plays;
 mod put_seat;
 mod put_steps;
 mod putting;
-mod rest;
+mod resting;
 mod rule;
 
+use crate::sided::Parting;
 pub use get_seat::GetSeat;
 pub use interleavings::every_interleaving_is_a_schedule;
-use meeting::part;
 pub use pass::{GetPass, PutPass};
 pub use put_seat::PutSeat;
-pub use rest::{CompletionRest, rest_completion};
+pub use resting::{CompletionRest, rest_completion};
 use rule::RingTable;
 use std::alloc::{AllocError, Global};
 use std::sync::Arc;
 
 /// The maker of a ring's two ends. No value of it is needed.
-#[derive(Debug, Clone, Copy)]
+#[derive(Clone, Copy, Debug)]
 pub struct CompletionRing;
 
 impl CompletionRing {
-    /// A ring in which at most `capacity` values wait, with the end that puts values in and the end
-    /// that gets them out. The error is want of memory.
+    /// The two ends of a ring in which at most `capacity` values wait. All the memory that they ever need is taken
+    /// here; the error is out of memory, and nothing is left of the ring then.
     pub fn new(alloc: Global, capacity: usize) -> Result<(PutSeat, GetSeat), AllocError>
-        requires some_room { 1 ≤ capacity }
-        requires countable { capacity < 2 ^ 32 }
-        ensures put { IfOk result (λ ends. put_pass ends.0 ≡ new_put_pass capacity) }
-        ensures get { IfOk result (λ ends. get_pass ends.1 ≡ new_get_pass capacity) }
-        ensures one_ring { IfOk result (λ ends. AreEndsOfOneRing ends.0 ends.1) }
+        requires some { 1 ≤ capacity }
+        requires most { capacity < 2 ^ 32 }
+        ensures one_ring { IfOk result (λ ends. IsOneRing ends.0 ends.1) }
+        ensures nothing_put { IfOk result (λ ends. put_pass ends.0 ≡ new_put_pass capacity) }
+        ensures nothing_got { IfOk result (λ ends. get_pass ends.1 ≡ new_get_pass capacity) }
     {
         let words = vec![in alloc; 0; capacity + 2]?;
         let capacity = capacity as u64;
         let (table, mut seat) = RingTable::of_words(alloc, words.as_slice(), &capacity)?;
-        let other = part(&table, &mut seat);
+        let other = table.shared.split_seat::<Parting>(&mut seat);
         let table = Arc::new(alloc, table)?;
         let shared = Arc::try_clone(&table)?;
         let put = PutSeat {
@@ -54,12 +53,14 @@ impl CompletionRing {
             seat,
             capacity,
             written: 0,
+            index: 0,
         };
         let get = GetSeat {
             table: shared,
             seat: other,
             capacity,
             read: 0,
+            index: 0,
         };
         Ok((put, get))
     }

@@ -1,8 +1,10 @@
 //! The used list whose capacity is part of its type. It takes no memory beside its own place, and
 //! the layer above may rely on what it may rely on with any used list.
+//!
+//! Ported from `zero_copy_connection/used_chunk_list.rs` of iceoryx2-cal 0.9.3.
 ghost use Rattle.std.specs.Prelude.{◌≡◌, ◌<◌, not};
 ghost use Rattle.cal_queue.specs.Callback.{MayRunOver, RunsOver};
-ghost use Rattle.cal_queue.specs.UsedChunks.{capacity_of, contains, members, none_used, inserted, removed};
+ghost use Rattle.cal_queue.specs.UsedChunks.{capacity_of, contains, members, none_used, after_insertion, after_removal};
 
 use crate::marks::clear_marks;
 use std::marker::Model;
@@ -11,6 +13,7 @@ use std::mem;
 /// A set of the numbers below `CAPACITY` that takes no memory beside its own place.
 #[derive(Debug, Drop)]
 pub struct FixedSizeUsedChunkList<const CAPACITY: usize> {
+    /// A mark for each number, true where it is a member.
     marks: [bool; CAPACITY],
 }
 
@@ -54,7 +57,7 @@ impl<const CAPACITY: usize> FixedSizeUsedChunkList<CAPACITY> {
 
     /// Whether a number is a member.
     pub fn contains(&self, value: usize) -> bool
-        requires { value < CAPACITY }
+        requires below { value < CAPACITY }
         ensures member { result ≡ contains self.now value }
         ensures whole { capacity_of self.now ≡ CAPACITY }
     {
@@ -63,9 +66,9 @@ impl<const CAPACITY: usize> FixedSizeUsedChunkList<CAPACITY> {
 
     /// Makes a number a member, and answers whether it was none before.
     pub fn insert(&mut self, value: usize) -> bool
-        requires { value < CAPACITY }
+        requires below { value < CAPACITY }
         ensures was_absent { result ≡ not (contains self.old value) }
-        ensures now_present { self.new ≡ inserted self.old value }
+        ensures now_present { self.new ≡ after_insertion self.old value }
         ensures whole { capacity_of self.new ≡ CAPACITY }
     {
         !mem::replace(&mut self.marks[value], true)
@@ -73,9 +76,9 @@ impl<const CAPACITY: usize> FixedSizeUsedChunkList<CAPACITY> {
 
     /// Takes a number out, and answers whether it was a member before.
     pub fn remove(&mut self, value: usize) -> bool
-        requires { value < CAPACITY }
+        requires below { value < CAPACITY }
         ensures was_present { result ≡ contains self.old value }
-        ensures now_absent { self.new ≡ removed self.old value }
+        ensures now_absent { self.new ≡ after_removal self.old value }
         ensures whole { capacity_of self.new ≡ CAPACITY }
     {
         mem::replace(&mut self.marks[value], false)
@@ -83,7 +86,7 @@ impl<const CAPACITY: usize> FixedSizeUsedChunkList<CAPACITY> {
 
     /// Takes every member out, and calls the callback on each, the lowest first.
     pub fn remove_all<F: FnMut(usize)>(&mut self, callback: F)
-        requires { MayRunOver F.FnMut callback (members self.old) }
+        requires callable { MayRunOver F.FnMut callback (members self.old) }
         ensures called { RunsOver F.FnMut callback (members self.old) }
         ensures empty { self.new ≡ none_used CAPACITY }
     {

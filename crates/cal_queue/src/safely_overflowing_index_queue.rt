@@ -1,8 +1,11 @@
 //! A first-in first-out queue of numbers in which there is always room for another: where it is
 //! full, the oldest number leaves and is given back. The layer above may rely on the order, on
 //! losing no number unseen, and on a push that takes no memory.
+//!
+//! Stands for `spsc::safely_overflowing_index_queue` of iceoryx2-bb-lock-free, which `zero_copy_connection/common.rs`
+//! of iceoryx2-cal 0.9.3 stands on.
 ghost use Rattle.std.specs.Prelude.{◌≡◌, ◌≤◌, ◌↔◌, length, IfOk, IsSome, IsTrue};
-ghost use Rattle.cal_queue.specs.Queue.{IsBounded, empty, is_empty, is_full, oldest, popped, pushed, displaced, with_room};
+ghost use Rattle.cal_queue.specs.Queue.{IsBounded, empty, is_empty, is_full, oldest, after_pop, after_push, overflow_of, with_room};
 
 use crate::bounded_queue::BoundedQueue;
 use std::alloc::{AllocError, Global};
@@ -11,6 +14,7 @@ use std::marker::Model;
 /// A queue of `u64`, the oldest first, of which at most a fixed number wait at once.
 #[derive(Debug, Drop)]
 pub struct SafelyOverflowingIndexQueue {
+    /// The values that wait, and the room for them.
     queue: BoundedQueue,
 }
 
@@ -24,9 +28,9 @@ impl Model for SafelyOverflowingIndexQueue {
 
 impl SafelyOverflowingIndexQueue {
     /// An empty queue for `capacity` values. All the memory that it ever needs is taken here;
-    /// the error is want of that memory.
+    /// the error is that it is out of memory.
     pub fn new(alloc: Global, capacity: usize) -> Result<Self, AllocError>
-        requires { 1 ≤ capacity }
+        requires some { 1 ≤ capacity }
         ensures empty { IfOk result (λ q. q ≡ empty capacity) }
     {
         Ok(SafelyOverflowingIndexQueue {
@@ -34,31 +38,31 @@ impl SafelyOverflowingIndexQueue {
         })
     }
 
-    /// Adds a value behind all others. Where the queue is full the oldest value leaves first,
+    /// Adds a value after all others. Where the queue is full the oldest value leaves first,
     /// and is the answer.
     pub fn push(&mut self, value: u64) -> Option<u64>
         ensures full { IsSome result ↔ IsTrue (is_full self.old) }
-        ensures displaced { result ≡ displaced self.old }
-        ensures joined { self.new ≡ pushed (with_room self.old) value }
+        ensures overflowed { result ≡ overflow_of self.old }
+        ensures joined { self.new ≡ after_push (with_room self.old) value }
     {
-        let displaced = if self.queue.is_full() {
+        let overflowed = if self.queue.is_full() {
             self.queue.pop()
         } else {
             None
         };
         self.queue.push(value);
-        displaced
+        overflowed
     }
 
     /// Takes the oldest value, if any waits.
     pub fn pop(&mut self) -> Option<u64>
         ensures oldest { result ≡ oldest self.old }
-        ensures left { self.new ≡ popped self.old }
+        ensures left { self.new ≡ after_pop self.old }
     {
         self.queue.pop()
     }
 
-    /// Whether the next push displaces a value.
+    /// Whether the oldest value overflows at the next push.
     pub fn is_full(&self) -> bool
         ensures full { result ≡ is_full self.now }
         ensures bounded { IsBounded self.now }

@@ -1,9 +1,9 @@
-//! The words that the two sides of a connection share: one that says which sides are there, and one
-//! for each channel. Each side changes them in single steps through a seat of its own. The layer
-//! above may rely on each answer carrying a word that a step of that call saw, and on a seat's pass,
-//! which contracts see: the list of all steps that the seat took.
+//! The words that the two sides of a connection share, for two threads: one that says which sides are there, and one
+//! for each channel. The original keeps them in the shared management data of `zero_copy_connection/common.rs`. Each
+//! side changes them in single steps through a seat of its own. The layer above may rely on each answer carrying a word
+//! that a step of that call saw, and on a seat's pass, which contracts see: the list of all steps that the seat took.
 ghost use Rattle.std.specs.Prelude.{◌≡◌, ◌≤◌, ◌^◌, ◌<◌, IfOk};
-ghost use Rattle.cal_queue.specs.StateTable.{opening_words, unused};
+ghost use Rattle.cal_queue.specs.StateTable.{opening_words, new_pass_of};
 ghost use Rattle.cal_queue.specs.StateSeats.{pass, ShareTable};
 
 mod calls;
@@ -22,21 +22,21 @@ use std::alloc::{AllocError, Global};
 use std::sync::Arc;
 
 /// The makers of seats at a new table of words. No value of it is needed.
-#[derive(Debug, Clone, Copy)]
+#[derive(Clone, Copy, Debug)]
 pub struct StateTable;
 
 impl StateTable {
-    /// A table whose port word is `port` and whose `channels` other words are `initial`, with a
-    /// seat for each side. The error is want of memory.
+    /// A table whose port word is `port` and whose `channels` other words are `initial`, with a seat for each side. The
+    /// error is out of memory, and nothing is left of the table then.
     pub fn new(
         alloc: Global,
         channels: usize,
         port: u8,
         initial: u64,
     ) -> Result<(StateSeat, StateSeat), AllocError>
-        requires { port ≤ 3 }
-        ensures first { IfOk result (λ seats. pass seats.0 ≡ unused port channels initial) }
-        ensures second { IfOk result (λ seats. pass seats.1 ≡ unused port channels initial) }
+        requires port { port ≤ 3 }
+        ensures first { IfOk result (λ seats. pass seats.0 ≡ new_pass_of port channels initial) }
+        ensures second { IfOk result (λ seats. pass seats.1 ≡ new_pass_of port channels initial) }
         ensures shared { IfOk result (λ seats. ShareTable seats.0 seats.1) }
     {
         let opening = OpeningWords {
@@ -59,9 +59,10 @@ impl StateTable {
     }
 }
 
-// The words in their places: the port word, and then one for each channel.
+// The words in their order: the port word, and then one for each channel.
 fn opening_row(alloc: Global, channels: usize, port: u64, each: u64) -> Result<Vec<u64>, AllocError>
-    ensures { IfOk result (λ words. words.items ≡ opening_words (record { port = port; initial = each; channels = channels })) }
+    ensures { IfOk result
+        (λ words. words.items ≡ opening_words (record { port = port; initial = each; channels = channels })) }
 {
     let mut words = Vec::new(alloc);
     words.push(port)?;

@@ -1,49 +1,40 @@
-//! The queue of a channel for two threads. One end sends and the other takes, each from a thread of its own and without a
-//! lock: a sender never waits, and with overflow a full ring gives its oldest value back instead of refusing. The layer
-//! above may rely on each value sent being received or given back at most once, in the order of sending, and on `rest`,
-//! which joins both ends and says that nothing was lost.
-ghost use Rattle.std.specs.Prelude.{◌≡◌, ◌+◌, ◌^◌, ◌<◌, ◌≤◌, length, replicate, IfOk};
-ghost use Rattle.cal_queue.specs.Spread.{IsSpread};
+//! The queue of a channel for two threads, in place of the original's `safely_overflowing_index_queue` (`spsc` of
+//! iceoryx2-bb-lock-free). One end sends and the other takes, each from a thread of its own and without a lock: a
+//! sender never waits, and with overflow the oldest value of a full ring comes back instead of a refusal. The layer
+//! above may rely on each value sent being received or overflowing at most once, in the order of sending, and on
+//! `rest`, which joins both ends and says that nothing was lost.
+ghost use Rattle.std.specs.Prelude.{◌≡◌, ◌+◌, ◌^◌, ◌<◌, ◌≤◌, replicate, IfOk};
 ghost use Rattle.cal_queue.specs.SubmissionPass.{new_send_pass, new_take_pass};
-ghost use Rattle.cal_queue.specs.SubmissionCalls.{send_pass, take_pass, IsOneRing, IsScheduled};
+ghost use Rattle.cal_queue.specs.SubmissionCalls.{send_pass, take_pass, IsOneRing};
 
 mod interleavings;
 mod pass;
-mod place;
 mod plays;
+mod resting;
 mod rule;
 mod send_seat;
-mod sender_steps;
+mod send_steps;
 mod sending;
 mod take_seat;
-mod taker_steps;
+mod take_steps;
 mod taking;
 #[cfg(test)]
 mod tests;
 
+use crate::ring_words::FIRST_SLOT;
 use crate::sided::Parting;
 pub use interleavings::every_interleaving_is_a_schedule;
 pub use pass::{SendPass, TakePass};
-use plays::Settle;
-use rule::{FIRST_SLOT, Meeting, READ_POSITION, RingTable};
+pub use resting::{RingRest, rest};
+use rule::RingTable;
 pub use send_seat::SendSeat;
 use std::alloc::{AllocError, Global};
 use std::sync::Arc;
 pub use take_seat::TakeSeat;
 
-/// A ring for two threads, which is used by its two ends.
+/// The maker of a ring's two ends. No value of it is needed.
+#[derive(Clone, Copy, Debug)]
 pub struct SubmissionRing;
-
-/// What became of the values that were sent into a ring.
-#[derive(Clone, Copy, PartialEq, Eq, Debug)]
-pub struct RingRest {
-    pub sent: usize,
-    pub received: usize,
-    /// How many came back to the sender, since the ring was full.
-    pub returned: usize,
-    /// How many are still in the ring.
-    pub left: usize,
-}
 
 fn zeros(alloc: Global, count: usize) -> Result<Vec<u64>, AllocError>
     ensures { IfOk result (λ row. row.items ≡ replicate count 0) }
@@ -52,8 +43,8 @@ fn zeros(alloc: Global, count: usize) -> Result<Vec<u64>, AllocError>
 }
 
 impl SubmissionRing {
-    /// The two ends of a ring in which `buffer` values may wait between two calls. All the memory that they ever need is
-    /// taken here; the error is want of that memory.
+    /// The two ends of a ring in which at most `buffer` values wait between two calls. All the memory that they ever
+    /// need is taken here; the error is out of memory, and nothing is left of the ring then.
     pub fn new(alloc: Global, buffer: usize) -> Result<(SendSeat, TakeSeat), AllocError>
         requires some { 1 ≤ buffer }
         requires most { buffer < 2 ^ 32 }
@@ -73,8 +64,8 @@ impl SubmissionRing {
             seat,
             buffer,
             written: 0,
-            returned: 0,
-            place: 0,
+            overflowed: 0,
+            index: 0,
             copy,
         };
         let take = TakeSeat {
@@ -83,45 +74,8 @@ impl SubmissionRing {
             buffer,
             received: 0,
             next: 0,
-            place: 0,
+            index: 0,
         };
         Ok((send, take))
-    }
-}
-
-/// Joins the two ends of a ring again, and says what became of the values.
-pub fn rest(send: SendSeat, take: TakeSeat) -> RingRest
-    requires { IsOneRing send take }
-    ensures sent { result.sent ≡ length (send_pass send).sent }
-    ensures received { result.received ≡ length (take_pass take).received }
-    ensures returned { result.returned ≡ length (send_pass send).returned }
-    ensures adds_up { result.sent ≡ result.received + result.returned + result.left }
-    ensures spread { IsSpread (send_pass send).sent (take_pass take).received (send_pass send).returned }
-    ensures scheduled { IsScheduled (send_pass send) (take_pass take) }
-{
-    let SendSeat {
-        table,
-        mut seat,
-        buffer: _,
-        written,
-        returned,
-        place: _,
-        copy: _,
-    } = send;
-    let TakeSeat {
-        table: _,
-        seat: other,
-        buffer: _,
-        received,
-        next: _,
-        place: _,
-    } = take;
-    table.shared.join_seat::<Meeting>(&mut seat, other);
-    let read = table.shared.load::<Settle>(&mut seat, READ_POSITION);
-    RingRest {
-        sent: written as usize,
-        received: received as usize,
-        returned: returned as usize,
-        left: (written - read) as usize,
     }
 }

@@ -1,7 +1,7 @@
-pub mod ChangeParts
-pub mod Entering
-pub mod LaterLaws
-pub mod Naming
-pub mod OpenLaws
-pub mod Refusing
-pub mod Within
+pub mod ChangeLemmas
+pub mod EnteringLemmas
+pub mod LaterLemmas
+pub mod NamingLemmas
+pub mod OpenHandleLemmas
+pub mod RefusalLemmas
+pub mod SlotLemmas

@@ -54,7 +54,8 @@ module _ {T : Type 0} where
   abbrev pub IsShared : Contents T → ℕ → Type 0
   IsShared contents id = IsSomeAnd (entry_of contents id) (λ entry. 1 < entry.holders)
 
-  -- A change leaves the entry of an id: where its name is removed somebody holds it, where a handle on it closes another is
+  -- A change leaves the entry of an id: where its name is removed somebody holds it, where a handle on it closes
+  -- another is
   -- left, and nobody withdraws it.
   abbrev pub Spares : Contents T → Change T → ℕ → Type 0
   Spares contents (creates path value version) id = ⊤

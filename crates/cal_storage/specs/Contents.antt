@@ -10,7 +10,8 @@ use Rattle.cal_storage.specs.declared.entry.Slot.{Slot}
 use Rattle.cal_storage.specs.declared.entry.Slot.TheVariants.{Ended, Kept}
 pub use Rattle.cal_storage.specs.declared.handle.Handle.{Handle}
 
--- the names with the ids that they stand for, in the order of the paths' bytes, and a slot for each id that was ever made
+-- the names with the ids that they stand for, in the order of the paths' bytes, and a slot for each id that was ever
+-- made
 pub record Contents (T : Type 0) : Type 0 where
   pub names : List (List ℕ × ℕ)
   pub slots : List (Slot T)
@@ -120,7 +121,8 @@ module _ {T : Type 0} where
   -- a path doesn't stand for its entry any more, which stays while somebody holds it
   abbrev pub without_found_name : Contents T → List ℕ → Option ℕ → Contents T
   without_found_name contents path None = contents
-  without_found_name contents path (Some id) = with_slot (without_name contents path) id (slot_if_used false (slot_of contents id))
+  without_found_name contents path (Some id) =
+      with_slot (without_name contents path) id (slot_if_used false (slot_of contents id))
 
   abbrev pub after_removal : Contents T → List ℕ → Contents T
   after_removal contents path = without_found_name contents path (id_at contents path)
@@ -133,7 +135,8 @@ module _ {T : Type 0} where
   abbrev pub without_own_name : Contents T → Handle → Contents T
   without_own_name contents handle = if is_named contents handle then without_name contents handle.path else contents
 
-  -- an entry has one holder less. Where the handle is the owner its name goes; the entry stays while a holder or a name is left.
+  -- an entry has one holder less. Where the handle is the owner its name goes; the entry stays while a holder or a name
+  -- is left.
   abbrev pub after_close : Contents T → Handle → Contents T
   after_close contents handle =
       let stays_named : Bool = is_named contents handle && not handle.is_owner in
@@ -142,7 +145,8 @@ module _ {T : Type 0} where
 
   -- an entry that was being made has this value, and is finished with this version
   abbrev pub after_finish : Contents T → ℕ → T → ℕ → Contents T
-  after_finish contents id value version = with_slot contents id (slot_with_version version (slot_with_value value (slot_of contents id)))
+  after_finish contents id value version =
+      with_slot contents id (slot_with_version version (slot_with_value value (slot_of contents id)))
 
   -- an entry has ended at once, and so has its name, where this still stands for it
   abbrev pub after_withdrawal : Contents T → Handle → Contents T

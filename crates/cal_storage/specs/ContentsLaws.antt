@@ -9,12 +9,14 @@ pub record LeavesOthers {T : Type 0} (old new : Contents T) (id : ℕ) (path : L
   pub entries : (other : ℕ) → other ≢ id → entry_of new other ≡ entry_of old other
   pub names : (other : List ℕ) → other ≢ path → id_at new other ≡ id_at old other
 
--- No id is used again. As many were made at least; where the entry of one had ended it stays ended, and where one has an entry
+-- No id is used again. As many were made at least; where the entry of one had ended it stays ended, and where one has
+-- an entry
 -- it had one before, made under the same path.
 pub record IsLater {T : Type 0} (old new : Contents T) : Type 0 where
   pub made : length old.slots ≤ length new.slots
   pub ended : (id : ℕ) → id < length old.slots → entry_of old id ≡ None → entry_of new id ≡ None
-  pub same : (id : ℕ) (entry : Entry T) → id < length old.slots → entry_of new id ≡ Some entry → IsSomeAnd (entry_of old id) (λ before. before.path ≡ entry.path)
+  pub same : (id : ℕ) (entry : Entry T) → id < length old.slots → entry_of new id ≡ Some entry →
+      IsSomeAnd (entry_of old id) (λ before. before.path ≡ entry.path)
 
 module _ {T : Type 0} where
   -- the entry with one holder more, and with one less
@@ -32,7 +34,8 @@ module _ {T : Type 0} where
 -- A path stands for a new id, which no call has made before. Its entry has one holder, and all others are left.
 pub record MakesEntry {T : Type 0} (old new : Contents T) (path : List ℕ) (value : T) (version : ℕ) : Type 0 where
   pub name : id_at new path ≡ Some (length old.slots)
-  pub entry : entry_of new (length old.slots) ≡ Some (record { path = path; value = value; version = version; holders = 1 })
+  pub entry : entry_of new (length old.slots) ≡
+      Some (record { path = path; value = value; version = version; holders = 1 })
   pub others : LeavesOthers old new (length old.slots) path
 
 -- The names stay, and the entry of an id changes, if there is one.
@@ -42,7 +45,8 @@ pub record ChangesEntry {T : Type 0} (old new : Contents T) (id : ℕ) (change :
   pub others : (other : ℕ) → other ≢ id → entry_of new other ≡ entry_of old other
 
 -- The names stay, and the entry for which a path stands changes, if there is one.
-pub record ChangesNamedEntry {T : Type 0} (old new : Contents T) (path : List ℕ) (change : Entry T → Entry T) : Type 0 where
+pub record ChangesNamedEntry {T : Type 0} (old new : Contents T) (path : List ℕ) (change : Entry T → Entry T) : Type
+    0 where
   pub names : new.names ≡ old.names
   pub entry : (id : ℕ) → id_at old path ≡ Some id → entry_of new id ≡ option_map change (entry_of old id)
   pub others : (other : ℕ) → id_at old path ≢ Some other → entry_of new other ≡ entry_of old other
@@ -54,16 +58,19 @@ pub record TakesName {T : Type 0} (old new : Contents T) (path : List ℕ) : Typ
   pub entry : (id : ℕ) → id_at old path ≡ Some id → entry_of new id ≡ if_held (entry_of old id)
   pub other_entries : (other : ℕ) → id_at old path ≢ Some other → entry_of new other ≡ entry_of old other
 
--- The name of a handle is gone exactly where the handle is its owner and it stood for the handle's id. A name that stands for
+-- The name of a handle is gone exactly where the handle is its owner and it stood for the handle's id. A name that
+-- stands for
 -- another's id stays.
 pub record GivesUpName {T : Type 0} (old new : Contents T) (handle : Handle) : Type 0 where
   pub gone : IsTrue handle.is_owner → id_at old handle.path ≡ Some handle.id → id_at new handle.path ≡ None
-  pub stays : (handle.is_owner ≡ false) ⊎ (id_at old handle.path ≢ Some handle.id) → id_at new handle.path ≡ id_at old handle.path
+  pub stays : (handle.is_owner ≡ false) ⊎ (id_at old handle.path ≢ Some handle.id) →
+      id_at new handle.path ≡ id_at old handle.path
 
 -- A handle's entry has one holder less. It stays where a holder or its name is left, and else has ended.
 pub record LetsGo {T : Type 0} (old new : Contents T) (handle : Handle) (entry : Entry T) : Type 0 where
   pub name : GivesUpName old new handle
-  pub stays : (0 < one_less entry.holders) ⊎ (id_at new handle.path ≡ Some handle.id) → entry_of new handle.id ≡ Some (one_holder_less entry)
+  pub stays : (0 < one_less entry.holders) ⊎ (id_at new handle.path ≡ Some handle.id) →
+      entry_of new handle.id ≡ Some (one_holder_less entry)
   pub ends : one_less entry.holders ≡ 0 → id_at new handle.path ≢ Some handle.id → entry_of new handle.id ≡ None
   pub others : LeavesOthers old new handle.id handle.path
 
@@ -74,7 +81,8 @@ pub record Withdraws {T : Type 0} (old new : Contents T) (handle : Handle) : Typ
   pub entry : entry_of new handle.id ≡ None
   pub others : LeavesOthers old new handle.id handle.path
 
--- The names are the same, each id has the entry that it had, and no fewer ids were made. So a registry differs from the one
+-- The names are the same, each id has the entry that it had, and no fewer ids were made. So a registry differs from the
+-- one
 -- before in ids that were used and have ended.
 pub record KeepsEntries {T : Type 0} (old new : Contents T) : Type 0 where
   pub names : new.names ≡ old.names

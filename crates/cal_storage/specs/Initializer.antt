@@ -1,4 +1,5 @@
--- What a contract says of an initializer, which is shown a value that is to be stored, and an allocator over the room beside it.
+-- What a contract says of an initializer, which is shown a value that is to be stored, and an allocator over the room
+-- beside it.
 use Rattle.std.specs.Prelude.{◌≡◌, ℕ, Bool, true}
 use Rattle.std.specs.Fn.{Mut, Called}
 use Rattle.std.specs.Borrow.{MutBor}
@@ -28,5 +29,6 @@ module _ {F T : Type 0} (calls : Calls F T) where
     pub after : MutBor T
     pub allocator_after : MutBor Bump
     pub initializer_after : F
-    pub called : Called calls initializer (shown, (allocator, tt)) (answer, (after, (allocator_after, tt))) initializer_after
+    pub called : Called calls initializer (shown, (allocator, tt)) (answer, (after, (allocator_after, tt)))
+        initializer_after
     pub leaves : after.now ≡ left

@@ -10,7 +10,7 @@ pub mod Holding
 pub mod HoldingLemmas
 pub mod Initializer
 pub mod Managing
-pub mod NameLists
+pub mod NameLemmas
 pub mod OpenHandles
 pub mod Plan
 pub mod Refusals

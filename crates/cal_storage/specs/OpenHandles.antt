@@ -15,7 +15,8 @@ with_one_closed (other ∷ others) id = if other == id then others else other �
 
 -- Each open handle has its entry, which counts a holder for each handle on it at least, up to the greatest number.
 pub record ServesHandles {T : Type 0} (contents : Contents T) (open_handles : List ℕ) : Type 0 where
-  pub entries : (id : ℕ) → 0 < open_on open_handles id → IsSomeAnd (entry_of contents id) (λ entry. min (open_on open_handles id) (2 ^ 64 - 1) ≤ entry.holders)
+  pub entries : (id : ℕ) → 0 < open_on open_handles id → IsSomeAnd (entry_of contents id)
+      (λ entry. min (open_on open_handles id) (2 ^ 64 - 1) ≤ entry.holders)
 
 module _ {T : Type 0} where
   -- who makes or opens an entry has a handle on it, a close takes one, and after a withdrawal nobody has one
@@ -31,7 +32,8 @@ module _ {T : Type 0} where
 
   abbrev pub open_after_all : Contents T → List ℕ → List (Change T) → List ℕ
   open_after_all contents open_handles [] = open_handles
-  open_after_all contents open_handles (change ∷ changes) = open_after_all (after contents change) (open_after contents open_handles change) changes
+  open_after_all contents open_handles (change ∷ changes) =
+      open_after_all (after contents change) (open_after contents open_handles change) changes
 
   -- an entry that is opened is there, and a handle that closes or withdraws is open
   abbrev pub HasHandle : Contents T → List ℕ → Change T → Type 0
@@ -47,4 +49,5 @@ module _ {T : Type 0} where
   -- each change is allowed where it comes, and is made by an open handle where it takes one
   abbrev pub IsRunOfHandles : Contents T → List ℕ → List (Change T) → Type 0
   IsRunOfHandles contents open_handles [] = ⊤
-  IsRunOfHandles contents open_handles (change ∷ changes) = IsAllowed contents change × HasHandle contents open_handles change × IsRunOfHandles (after contents change) (open_after contents open_handles change) changes
+  IsRunOfHandles contents open_handles (change ∷ changes) = IsAllowed contents change × HasHandle contents open_handles
+      change × IsRunOfHandles (after contents change) (open_after contents open_handles change) changes

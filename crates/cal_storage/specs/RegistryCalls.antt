@@ -10,8 +10,10 @@ use Rattle.cal_storage.specs.declared.dynamic_storage.errors.DynamicStorageOpenO
 use Rattle.cal_storage.specs.declared.dynamic_storage.errors.DynamicStorageCreateError.TheVariants.{InitializationFailed, NoMemory}
 
 module _ {F T : Type 0} (calls : Calls F T) where
-  -- The initializer answered true, and the path, which stood for nothing, stands for a new entry with the value that it left.
-  pub record Creates (initializer : F) (value : T) (room : ℕ) (old : Contents T) (path : List ℕ) (new : Contents T) : Type 0 where
+  -- The initializer answered true, and the path, which stood for nothing, stands for a new entry with the value that it
+  -- left.
+  pub record Creates (initializer : F) (value : T) (room : ℕ) (old : Contents T) (path : List ℕ) (new : Contents T) :
+      Type 0 where
     pub left : T
     pub initialized : Initializes calls initializer value room left true
     pub was_free : id_at old path ≡ None
@@ -22,8 +24,9 @@ module _ {F T : Type 0} (calls : Calls F T) where
     pub left : T
     pub initialized : Initializes calls initializer value room left false
 
-  -- why a creation failed: its path was refused, memory was wanting, or the initializer answered false
-  abbrev pub CreateFails : Option create.DynamicStorageCreateError → F → T → ℕ → create.DynamicStorageCreateError → Type 0
+  -- why a creation failed: its path was refused, it was out of memory, or the initializer answered false
+  abbrev pub CreateFails : Option create.DynamicStorageCreateError → F → T → ℕ → create.DynamicStorageCreateError →
+      Type 0
   CreateFails refusal initializer value room error =
       (refusal ≡ Some error) ⊎ (error ≡ NoMemory) ⊎ ((error ≡ InitializationFailed) × Refuses initializer value room)
 
@@ -34,9 +37,12 @@ module _ {F T : Type 0} (calls : Calls F T) where
   OpenOrCreateFails refusal found initializer value room (DynamicStorageCreateError error) =
       (found ≡ None) × CreateFails None initializer value room error
 
-  -- The initializer was called on the value of an entry. Where it answered true the entry has the value that it left, and is
+  -- The initializer was called on the value of an entry. Where it answered true the entry has the value that it left,
+  -- and is
   -- finished; else the entry has ended, and its name is gone where it still stood for it.
-  pub record FinishesEntry (initializer : F) (room : ℕ) (old : Contents T) (handle : Handle) (answer : Bool) (new : Contents T) : Type 0 where
+  pub record FinishesEntry (initializer : F) (room : ℕ) (old : Contents T) (handle : Handle) (answer : Bool)
+      (new : Contents T) : Type 0 where
     pub left : T
     pub initialized : IsSomeAnd (value_of old handle.id) (λ value. Initializes calls initializer value room left answer)
-    pub contents : new ≡ (if answer then after_finish old handle.id left finished_version else after_withdrawal old handle)
+    pub contents : new ≡ (if answer then after_finish old handle.id left finished_version
+        else after_withdrawal old handle)

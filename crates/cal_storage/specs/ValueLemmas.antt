@@ -1,4 +1,5 @@
--- What crates above need of an entry whose value is written, of another's close, and of an entry that its owner makes and
+-- What crates above need of an entry whose value is written, of another's close, and of an entry that its owner makes
+-- and
 -- closes again.
 use Rattle.std.proofs.Common.{◌≡◌, ◌≢◌, ℕ, zero, suc, ◌<◌, ◌≤◌, ◌+◌, Bool, true, false, not, ◌&&◌, List, [], ◌∷◌, ◌++◌, length, Option, Some, None, IsSomeAnd, if◌then◌else◌, slice_set, option_map, refl, sym, ap, subst, ◌∙◌, inl, inr, arith}
 use Rattle.std.proofs.lemmas.Bool.{cases_eq, cases_lt}
@@ -9,7 +10,7 @@ use Rattle.cal_storage.specs.declared.entry.Slot.{Slot}
 use Rattle.cal_storage.specs.declared.entry.Slot.TheVariants.{Ended, Kept}
 use Rattle.cal_storage.specs.Contents.{Contents, Handle, Has, entry_in, slot_with_value, slot_with_holder_less, slot_if_used, id_at, slot_of, entry_of, value_of, with_slot, without_name, without_own_name, is_named, with_value, after_creation, after_close, new_handle}
 use Rattle.cal_storage.specs.ContentsLaws.{KeepsEntries}
-use Rattle.cal_storage.specs.NameLists.{remove-insert}
+use Rattle.cal_storage.specs.NameLemmas.{remove-insert}
 use Rattle.cal_storage.specs.SoundnessLemmas.{is_id-same, slot_of-with_slot-same, slot_of-with_slot-other, id_at-after_creation-same}
 use Rattle.cal_storage.specs.EntryLemmas.{with_value-ChangesEntry}
 use Rattle.cal_storage.specs.HandleLemmas.{Has-ChangesEntry}
@@ -36,7 +37,8 @@ module _ {T : Type 0} where
     entry_of-with_value-other = let changes = with_value-ChangesEntry contents id value in changes.others
 
     written : (at : Option (Entry T)) (P : Entry T → Type 0) → IsSomeAnd at P →
-        option_map (λ (entry : Entry T). entry.value) (option_map (λ (entry : Entry T). record entry { value = value }) at)
+        option_map (λ (entry : Entry T). entry.value)
+        (option_map (λ (entry : Entry T). record entry { value = value }) at)
         ≡ Some value
     written None P there = absurd there
     written (Some entry) P there = refl
@@ -100,7 +102,8 @@ module _ {T : Type 0} where
   slot_of-after_close-other contents handle other apart =
       let left : Contents T = if handle.is_owner then without_own_name contents handle else contents in
       slot_of-with_slot-other left handle.id
-      (slot_if_used (is_named contents handle && not handle.is_owner) (slot_with_holder_less (slot_of contents handle.id)))
+      (slot_if_used (is_named contents handle && not handle.is_owner)
+      (slot_with_holder_less (slot_of contents handle.id)))
       other apart
       ∙ ap (λ slots. slot_of (record contents { slots = slots }) other)
       (same_slots contents handle.path handle.is_owner (is_named contents handle))
@@ -122,7 +125,8 @@ module _ {T : Type 0} where
     ended_slots : List (Slot T)
     ended_slots = contents.slots ++ Ended ∷ []
 
-    closed_again : after_close made_first owner ≡ record { names = contents.names; slots = contents.slots ++ Ended ∷ [] }
+    closed_again : after_close made_first owner ≡
+        record { names = contents.names; slots = contents.slots ++ Ended ∷ [] }
     closed_again =
         let id : ℕ = length contents.slots in
         let entry : Entry T = record { path = path; value = value; version = version; holders = 1 } in
@@ -131,7 +135,8 @@ module _ {T : Type 0} where
         let here : slot_of made_first id ≡ Kept entry = get_or_push contents.slots (Kept entry) Ended id refl in
         ap (λ b. with_slot (if b then without_name made_first path else made_first) id
         (slot_if_used (b && not true) (slot_with_holder_less (slot_of made_first id)))) named
-        ∙ ap (λ slot. with_slot (without_name made_first path) id (slot_if_used false (slot_with_holder_less slot))) here
+        ∙ ap (λ slot. with_slot (without_name made_first path) id (slot_if_used false (slot_with_holder_less slot)))
+        here
         ∙ ap (λ names. record {
           names = names;
           slots = slice_set (contents.slots ++ Kept entry ∷ []) id Ended;

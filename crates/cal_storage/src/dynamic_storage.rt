@@ -1,10 +1,11 @@
-//! A dynamic storage holds a value of one type in a registry, under a name. Whoever creates it owns the name; whoever knows the
-//! name can open it, and the value stays while anybody holds it, unless it is refused when its making is finished.
+//! A dynamic storage holds a value of one type in a registry, under a name. Whoever creates it owns the name; whoever
+//! knows the name can open it, and the value stays while anybody holds it, unless it is refused when its making is
+//! finished.
 //!
-//! The layer above may rely on this: each call changes the name and the entry that it is about and no other, a refused call
-//! leaves the registry as it was, and the value that is read is the one that was last written. Each call says which open
-//! handles keep their entry: all of them, but for the one that closes, and for those on an entry that is refused when its
-//! making is finished.
+//! The layer above may rely on this: each call changes the name and the entry that it is about and no other, a refused
+//! call leaves the registry as it was, and the value that is read is the one that was last written. Each call says
+//! which open handles keep their entry: all of them, but for the one that closes, and for those on an entry that is
+//! refused when its making is finished.
 //!
 //! Ported from `dynamic_storage/mod.rs` of iceoryx2-cal 0.9.3.
 ghost use Rattle.std.specs.Prelude.{◌≡◌, ◌≤◌, ◌^◌, ℕ, Bool, true, false, List, Some, None, codes, length, IfSome, IfNone, IfOk, IfErr, OnOk, OnErr};
@@ -67,9 +68,9 @@ pub trait DynamicStorageBuilder<T: NamedType, D: DynamicStorage<T>>: Debug
     fn timeout(self, turns: usize) -> Self
         ensures plan { Self.plan result ≡ Self.plan self };
 
-    /// Creates the storage of this name. The initializer may be called only where the creation isn't refused for its path,
-    /// on the value and an allocator over the room; the storage has the value that it leaves. Where it answers false the
-    /// value is dropped.
+    /// Creates the storage of this name. The initializer may be called only where the creation isn't refused for its
+    /// path, on the value and an allocator over the room; the storage has the value that it leaves. Where it answers
+    /// false the value is dropped.
     fn create<F: FnMut(&mut T, &mut BumpAllocator) -> bool + Drop>(
         self,
         reg: &mut Registry<T>,
@@ -93,7 +94,8 @@ pub trait DynamicStorageBuilder<T: NamedType, D: DynamicStorage<T>>: Debug
         ensures sound { IsSound reg.old }
         ensures unchanged { OnErr result (reg.new ≡ reg.old) };
 
-    /// Opens the storage of this name, which is held once more then. What is opened doesn't own the name. Takes no memory.
+    /// Opens the storage of this name, which is held once more then. What is opened doesn't own the name. Takes no
+    /// memory.
     fn open(
         self,
         reg: &mut Registry<T>,
@@ -116,8 +118,8 @@ pub trait DynamicStorageBuilder<T: NamedType, D: DynamicStorage<T>>: Debug
         ensures refused { result_err result ≡ open_refusal D.checks_version reg.now (Self.plan self.now) }
         ensures value { IfOk result (λ value. Some value.now ≡ value_at reg.now (path_of (Self.plan self.now))) };
 
-    /// Opens the storage of this name, and creates it where its path stands for nothing. The initializer may be called only
-    /// then.
+    /// Opens the storage of this name, and creates it where its path stands for nothing. The initializer may be called
+    /// only then.
     fn open_or_create<F: FnMut(&mut T, &mut BumpAllocator) -> bool + Drop>(
         self,
         reg: &mut Registry<T>,
@@ -129,7 +131,8 @@ pub trait DynamicStorageBuilder<T: NamedType, D: DynamicStorage<T>>: Debug
         ensures refused { IfSome (open_or_create_refusal D.checks_version reg.old (Self.plan self))
             (λ error. result ≡ Err (DynamicStorageOpenOrCreateError.DynamicStorageOpenError error)) }
         ensures error { IfErr result (OpenOrCreateFails F.FnMut
-            (open_or_create_refusal D.checks_version reg.old (Self.plan self)) (id_at reg.old (path_of (Self.plan self)))
+            (open_or_create_refusal D.checks_version reg.old (Self.plan self))
+            (id_at reg.old (path_of (Self.plan self)))
             initializer initial_value (Self.plan self).options.room) }
         ensures opened { IfOk result (λ storage. IfSome (id_at reg.old (path_of (Self.plan self))) (λ id.
             (reg.new ≡ after_opening reg.old id) × (D.handle storage ≡ found_handle (path_of (Self.plan self)) id))) }
@@ -199,8 +202,8 @@ pub trait DynamicStorage<T: NamedType>: Debug
         ensures* writes_back { sem 𝓛 (LendsValue T.row reg.entry (handle storage.now).id result) }
         ensures value { Some result.now ≡ value_of reg.old (handle storage.now).id };
 
-    /// Ends the storage: the entry is held once less, and the name goes where the storage owns it and it still stands for the
-    /// entry. The value is dropped where neither a holder nor a name is left.
+    /// Ends the storage: the entry is held once less, and the name goes where the storage owns it and it still stands
+    /// for the entry. The value is dropped where neither a holder nor a name is left.
     fn close(self, reg: &mut Registry<T>)
         requires { Has reg.old (handle self) }
         ensures closed { reg.new ≡ after_close reg.old (handle self) }
@@ -208,16 +211,16 @@ pub trait DynamicStorage<T: NamedType>: Debug
         ensures leaves_sharers { LeavesSharers reg.old reg.new (handle self).id }
         ensures sound { IsSound reg.old };
 
-    /// Removes the storage of this name, as `remove_cfg` does, and answers whether it was there. Since nothing is listed
-    /// first, it takes no memory.
+    /// Removes the storage of this name, as `remove_cfg` does, and answers whether it was there. Since nothing is
+    /// listed first, it takes no memory.
     fn remove_name(reg: &mut Registry<T>, name: &FileName, cfg: &Self::Configuration) -> bool
         ensures found { result ≡ has_name (Self.Configuration.settings cfg.now) name.now reg.old }
         ensures removed { reg.new ≡ after_name_removal (Self.Configuration.settings cfg.now) name.now reg.old }
         ensures keeps { KeepsHandles reg.old reg.new }
         ensures sound { IsSound reg.old };
 
-    // How the management of named concepts is meant: the paths are the registry's names, a path stands for the storage whose
-    // name is extracted from it, and a removal takes this path alone.
+    // How the management of named concepts is meant: the paths are the registry's names, a path stands for the storage
+    // whose name is extracted from it, and a removal takes this path alone.
     ghost paths_are_names: { Self.paths ≡ (λ (reg : Contents T). keys_of reg.names) };
 
     ghost shows: { Self.shown_name ≡ extracted_name_at };

@@ -1,4 +1,4 @@
-//! What a registry keeps of a stored value, and the place of its id.
+//! What a registry keeps of a stored value, and the slot of its id.
 ghost use Rattle.std.specs.Prelude.{◌≡◌, ◌≤◌, ◌^◌, true, IsSome, IfSome, Some};
 ghost use Rattle.std.specs.Borrow.{sem};
 ghost use Rattle.std.specs.Option.{option_copied, option_map};
@@ -31,7 +31,7 @@ pub struct Entry<T> {
     pub holders: usize,
 }
 
-/// The place of an id in a registry.
+/// The slot of an id in a registry.
 #[derive(Debug, Drop)]
 pub enum Slot<T> {
     /// The entry has ended. Its id isn't used again.

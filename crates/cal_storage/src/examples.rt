@@ -1,13 +1,13 @@
-//! Worked examples of the laws: what small registries have after a few calls. Each function does nothing, and its clauses are
-//! computed.
+//! Worked examples of the laws: what small registries have after a few calls. Each function does nothing, and its
+//! clauses are computed.
 
 ghost use Rattle.std.specs.Prelude.{◌≡◌, ◌-◌, ◌^◌, ◌++◌, [], ◌∷◌, Some, None};
 ghost use Rattle.cal_storage.specs.Changes.{opens, closes, withdraws};
 ghost use Rattle.cal_storage.specs.Contents.{after_opening, after_close, entry_of, id_at};
 ghost use Rattle.cal_storage.specs.Examples.{some_path, owner, guest, number, after_run, made, made_anew, held_by_two, closed_by_guests, begun, begun_and_made_anew, full};
 
-/// An owner whose name was removed and made anew by another closes: its own entry has ended, and the other's name and entry
-/// stay.
+/// An owner whose name was removed and made anew by another closes: its own entry has ended, and the other's name and
+/// entry stay.
 pub fn a_name_that_was_made_anew_stays_at_a_close()
     ensures name { id_at (after_run (made_anew ++ closes owner ∷ [])) some_path ≡ Some 1 }
     ensures own { entry_of (after_run (made_anew ++ closes owner ∷ [])) 0 ≡ None }
@@ -29,8 +29,8 @@ pub fn an_entry_ends_with_its_last_holder()
     ensures none { entry_of (after_run (held_by_two ++ closes guest ∷ closes owner ∷ [])) 0 ≡ None }
 {}
 
-/// An entry whose holders have all closed, none of them as its owner, stays under its name. Its count of holders doesn't fall
-/// below 0.
+/// An entry whose holders have all closed, none of them as its owner, stays under its name. Its count of holders
+/// doesn't fall below 0.
 pub fn an_entry_stays_under_its_name()
     ensures name { id_at (after_run closed_by_guests) some_path ≡ Some 0 }
     ensures entry { entry_of (after_run closed_by_guests) 0 ≡ Some (number 873 0) }

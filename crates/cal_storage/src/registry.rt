@@ -1,6 +1,7 @@
-//! The registry of all stored values of one type: names, which are paths that stand for entries, and the entries by their
-//! ids. An id is a place in a vector that only grows, so it is never used again. The layer above may rely on each call
-//! changing the name and the entry that it is about, and no other, and on an entry staying while somebody holds it.
+//! The registry of all stored values of one type: names, which are paths that stand for entries, and the entries by
+//! their ids. An id is an index in a vector that only grows, so it is never used again. The layer above may rely on
+//! each call changing the name and the entry that it is about, and no other, and on an entry staying while somebody
+//! holds it.
 ghost use Rattle.std.specs.Prelude.{◌≡◌, ◌<◌, ◌≤◌, ◌^◌, ℕ, Bool, List, not, Some, None, length, vec_len, vec_capacity, is_some, IsSomeAnd, IfSome, IsSome, IsOk, IfOk, IfErr, OnOk, OnErr, IsErrOf, ◌↔◌, ◌⊎◌, slice_index_or, if◌then◌else◌};
 ghost use Rattle.std.specs.Borrow.{sem};
 ghost use Rattle.std.specs.Option.{option_copied};
@@ -59,7 +60,7 @@ impl<T> Model for Registry<T> {
 impl<T> Registry<T> {
     /// A registry without names and ids.
     pub fn new(alloc: Global) -> Self
-        ensures { result ≡ nothing_registered }
+        ensures empty { result ≡ nothing_registered }
     {
         Registry {
             alloc,
@@ -78,16 +79,17 @@ impl<T> Registry<T> {
 
     /// Whether a path stands for an entry.
     pub fn contains(&self, path: &FilePath) -> bool
-        ensures { result ≡ is_some (id_at self.now path.now) }
+        ensures found { result ≡ is_some (id_at self.now path.now) }
     {
         self.names.contains_key(path)
     }
 
-    /// Gives the entry for which a path stands another version, and answers whether there is one. For tests of entries that
-    /// are half made, and of such that another version of this crate made.
+    /// Gives the entry for which a path stands another version, and answers whether there is one. For tests of entries
+    /// that are half made, and of such that another version of this crate made.
     pub fn set_version(&mut self, path: &FilePath, version: u64) -> bool
         ensures found { result ≡ is_some (id_at self.old path.now) }
         ensures set { self.new ≡ with_version self.old path.now version }
+        ensures keeps { KeepsHandles self.old self.new }
     {
         match self.id_at(path) {
             None => false,
@@ -113,9 +115,11 @@ impl<T> Registry<T> {
         config.path_for(name)
     }
 
-    /// Whether a name is there; not where its path would be too long.
-    pub(crate) fn has_name<C: NamedConceptConfiguration>(&self, name: &FileName, config: &C) -> bool
-        ensures { result ≡ list_any (goes_with (C.settings config.now) name.now) (keys_of self.now.names) }
+    /// Whether a name is there: whether a path is listed that goes with it, which is whether its path fits and stands
+    /// for an entry.
+    pub fn has_name<C: NamedConceptConfiguration>(&self, name: &FileName, config: &C) -> bool
+        ensures found { result ≡ list_any (goes_with (C.settings config.now) name.now) (keys_of self.now.names) }
+        ensures named { result ≡ has_name (C.settings config.now) name.now self.now }
     {
         let names = &self.names;
         match config.path_for(name) {
@@ -210,8 +214,8 @@ impl<T> Registry<T> {
 }
 
 impl<T: Drop> Registry<T> {
-    /// Enters a path with a value that the initializer was called on. Where it answers false, the value is dropped and nothing
-    /// is entered. All memory is taken before it is called.
+    /// Enters a path with a value that the initializer was called on. Where it answers false, the value is dropped and
+    /// nothing is entered.
     pub(crate) fn create<F: FnMut(&mut T, &mut BumpAllocator) -> bool + Drop>(
         &mut self,
         path: &FilePath,
@@ -229,8 +233,8 @@ impl<T: Drop> Registry<T> {
         ensures sound { IsSound self.old }
         ensures unchanged { OnErr result (self.new ≡ self.old) }
     {
-        let id = enter_name(&mut self.names, &mut self.slots, path)?;
         let mut value = initial_value;
+        let id = enter_name(&mut self.names, &mut self.slots, path)?;
         if !initialize(self.alloc, &mut value, room, initializer) {
             self.names.remove(path);
             return Err(DynamicStorageCreateError::InitializationFailed);
@@ -268,8 +272,8 @@ impl<T: Drop> Registry<T> {
         Ok(id)
     }
 
-    /// Finishes an entry: calls the initializer on its value. Where it answers false, the entry ends, and its name goes where
-    /// it still stands for it. Takes no memory.
+    /// Finishes an entry: calls the initializer on its value. Where it answers false, the entry ends, and its name goes
+    /// where it still stands for it. Takes no memory.
     pub(crate) fn finish<F: FnMut(&mut T, &mut BumpAllocator) -> bool + Drop>(
         &mut self,
         handle: &Handle,
@@ -277,7 +281,8 @@ impl<T: Drop> Registry<T> {
         initializer: F,
     ) -> bool
         requires there { Has self.old handle.now }
-        requires callable { IfSome (value_of self.old handle.now.id) (λ value. MayInitialize F.FnMut initializer value room) }
+        requires callable { IfSome (value_of self.old handle.now.id)
+            (λ value. MayInitialize F.FnMut initializer value room) }
         requires room { room ≤ 2 ^ 56 }
         ensures finished { FinishesEntry F.FnMut initializer room self.old handle.now result self.new }
         ensures sound { IsSound self.old }
@@ -321,8 +326,8 @@ impl<T: Drop> Registry<T> {
         }
     }
 
-    /// Closes an entry: it has one holder less, and the name of an owner goes where it still stands for the entry. The entry
-    /// stays while a holder or a name is left.
+    /// Closes an entry: it has one holder less, and the name of an owner goes where it still stands for the entry. The
+    /// entry stays while a holder or a name is left.
     pub(crate) fn close(&mut self, handle: &Handle)
         requires { Has self.old handle.now }
         ensures closed { self.new ≡ after_close self.old handle.now }

@@ -1,11 +1,12 @@
-//! A registry that several threads use in turn. What its type keeps holds each time it is locked: each name stands for an entry.
-//! Nothing else is known of it then, since another thread may have changed it.
+//! A registry that several threads use in turn. What its type keeps holds each time it is locked: each name stands for
+//! an entry. Nothing else is known of it then, since another thread may have changed it.
 use crate::registry::Registry;
 use std::sync::{Mutex, MutexGuard, Wait};
 
 /// A registry behind a lock. Each call that takes a registry can be lent the guard's.
 #[derive(Drop)]
 pub struct SharedRegistry<T> {
+    /// The registry, which one thread has at a time.
     registry: Mutex<Registry<T>>,
 }
 

@@ -1,2 +1,3 @@
+pub mod OverflowedValues
 pub mod RisingValues
 pub mod StepWrites

@@ -4,7 +4,7 @@ use Rattle.std.proofs.lemmas.List.{length-map}
 use Rattle.std.proofs.lemmas.List.FromFn.{length-range_with_len, get_or-range_with_len}
 use Rattle.std.proofs.lemmas.Option.{slice_get-get_or, slice_get_within, get_or_from_slice_get}
 use Rattle.std.specs.List.{range_with_len}
-use Rattle.cal_queue.specs.Spread.{Rises, AsSent}
+use Rattle.cal_queue.specs.Partition.{Rises, AsSent}
 use Rattle.cal_tests.specs.Rising.{IsRising}
 
 range-suc : (a n : ℕ) → range_with_len a (suc n) ≡ range_with_len a n ++ (a + n) ∷ []
@@ -24,12 +24,14 @@ range-rises n i j less below =
     let first = get_or-range_with_len 0 n i 0 (omega arith) in
     let second = get_or-range_with_len 0 n j 0 (omega arith) in omega arith
 
-value-at : (entries : List (ℕ × ℕ)) (i : ℕ) (e : ℕ × ℕ) → slice_get entries i ≡ Some e → get_or (map (λ (x : ℕ × ℕ). x.1) entries) i 0 ≡ e.1
+value-at : (entries : List (ℕ × ℕ)) (i : ℕ) (e : ℕ × ℕ) → slice_get entries i ≡ Some e →
+    get_or (map (λ (x : ℕ × ℕ). x.1) entries) i 0 ≡ e.1
 value-at [] i e is = cc
 value-at (x ∷ xs) zero e is = let same : x ≡ e = cc in ap (λ (y : ℕ × ℕ). y.1) same
 value-at (x ∷ xs) (suc i) e is = value-at xs i e is
 
-pub received-rises : (sent : List ℕ) (entries : List (ℕ × ℕ)) → IsRising sent → Rises entries → AsSent sent entries → IsRising (map (λ (x : ℕ × ℕ). x.1) entries)
+pub received-rises : (sent : List ℕ) (entries : List (ℕ × ℕ)) → IsRising sent → Rises entries → AsSent sent entries →
+    IsRising (map (λ (x : ℕ × ℕ). x.1) entries)
 received-rises sent entries rising positions values i j less below =
     let long = length-map entries (λ (x : ℕ × ℕ). x.1) in
     let none : ℕ × ℕ = (0, 0) in

@@ -83,7 +83,8 @@ pub fn put_and_get<R: Threads + Wait + Sync>(
         { put_all(rt, put, values) },
         || -> (GetSeat, Vec<u64>)
             requires { ((get_pass get).got ≡ []) × (room.items ≡ []) × (count ≤ vec_capacity room) }
-            ensures { SameGetEnd get result.0 × ((get_pass result.0).got ≡ result.1.items) × (vec_len result.1 ≡ count) }
+            ensures { SameGetEnd get result.0 × ((get_pass result.0).got ≡ result.1.items)
+                × (vec_len result.1 ≡ count) }
         { get_all(rt, get, room, count) },
     );
     let (get, got) = taken;

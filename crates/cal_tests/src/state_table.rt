@@ -1,10 +1,10 @@
 //! The words of a connection between two threads: each side joins and leaves, and both add to a channel's word.
-ghost use Rattle.std.specs.Prelude.{◌≡◌, ◌<◌, [], IfErr, IfOk};
-ghost use Rattle.std.specs.Bool.{OnTrue};
+ghost use Rattle.std.specs.Prelude.{◌≡◌, ◌<◌, ◌⊎◌, [], All, IfErr, IfOk};
+ghost use Rattle.std.specs.Bool.{OnFalse, OnTrue};
 ghost use Rattle.cal_queue.specs.StateAnswers.{Refused};
 ghost use Rattle.cal_queue.specs.StateSeats.{pass};
-ghost use Rattle.cal_queue.specs.StateTable.{IsPortBit, IsPortWord, mark, port_place, wrote};
-ghost use Rattle.cal_tests.specs.Writes.{EndsIn, writes};
+ghost use Rattle.cal_queue.specs.StateTable.{IsPortBit, IsPortWord, mark, port_index, write_step};
+ghost use Rattle.cal_tests.specs.Writes.{AddsOne, EndsIn, FindsBitGone, LeavesOtherBehind, writes};
 
 use cal_queue::reserve_refusal::ReserveRefusal;
 use cal_queue::state_table::{StateSeat, StateTable};
@@ -12,10 +12,14 @@ use std::alloc::{AllocError, Global};
 use std::sync::Wait;
 use std::thread::{Threads, join};
 
-/// A side joins and leaves again. The answer is whether it left the mark, or why it did not join.
+/// A side joins and leaves again. The answer is whether it left the mark, or why it did not join. Where it left none,
+/// it found the other side there, or its own bit taken by another seat.
 fn visit<R: Wait>(rt: &R, mut seat: StateSeat, bit: u8) -> (StateSeat, Result<bool, ReserveRefusal>)
-    requires { IsPortBit bit }
-    ensures marked { IfOk result.1 (λ marked. OnTrue marked (EndsIn (pass result.0).steps (wrote port_place bit mark))) }
+    requires bit { IsPortBit bit }
+    ensures marked { IfOk result.1
+        (λ marked. OnTrue marked (EndsIn (pass result.0).steps (write_step port_index bit mark))) }
+    ensures unmarked { IfOk result.1 (λ marked. OnFalse marked
+        (LeavesOtherBehind bit (pass result.0).steps ⊎ FindsBitGone bit (pass result.0).steps)) }
     ensures refused { IfErr result.1 (λ refusal. Refused bit refusal (pass seat) (pass result.0)) }
 {
     if let Err(refusal) = seat.reserve(rt, bit) {
@@ -51,6 +55,7 @@ fn add_ones<R: Wait>(rt: &R, mut seat: StateSeat, times: u64) -> StateSeat
     requires channel { 0 < (pass seat).opening.channels }
     requires unused { (pass seat).steps ≡ [] }
     ensures writes { writes (pass result).steps ≡ times }
+    ensures adds { All (AddsOne 0) (pass result).steps }
     ensures channel { 0 < (pass result).opening.channels }
 {
     let mut seen = seat.load_channel(0);
@@ -70,26 +75,29 @@ fn add_ones<R: Wait>(rt: &R, mut seat: StateSeat, times: u64) -> StateSeat
     seat
 }
 
-/// Two sides add to the word of one channel, each in a thread of its own. The answers are their seats, and the word that
-/// is left.
+/// Two sides add to the word of one channel, each in a thread of its own. The answers are their seats, and the word
+/// that is left.
 pub fn add_from_two_threads<R: Threads + Wait + Sync>(
     rt: &R,
     alloc: Global,
     times: u64,
 ) -> Result<(StateSeat, StateSeat, u64), AllocError>
     ensures first { IfOk result (λ r. writes (pass r.0).steps ≡ times) }
+    ensures first_adds { IfOk result (λ r. All (AddsOne 0) (pass r.0).steps) }
     ensures second { IfOk result (λ r. writes (pass r.1).steps ≡ times) }
+    ensures second_adds { IfOk result (λ r. All (AddsOne 0) (pass r.1).steps) }
 {
     let (first, second) = StateTable::new(alloc, 1, 0, 0)?;
     let (first, mut second) = join(
         rt,
         || -> StateSeat
             requires { (0 < (pass first).opening.channels) × ((pass first).steps ≡ []) }
-            ensures { writes (pass result).steps ≡ times }
+            ensures { (writes (pass result).steps ≡ times) × All (AddsOne 0) (pass result).steps }
         { add_ones(rt, first, times) },
         || -> StateSeat
             requires { (0 < (pass second).opening.channels) × ((pass second).steps ≡ []) }
-            ensures { (writes (pass result).steps ≡ times) × (0 < (pass result).opening.channels) }
+            ensures { (writes (pass result).steps ≡ times) × All (AddsOne 0) (pass result).steps
+                × (0 < (pass result).opening.channels) }
         { add_ones(rt, second, times) },
     );
     let word = second.load_channel(0);

@@ -5,9 +5,9 @@ pub use Rattle.std.proofs.Math.Nat.{mul-div_cancel}
 use Rattle.std.proofs.lemmas.List.{get_or-set_same, get_or-set_other, length-set}
 use Rattle.std.proofs.lemmas.Option.{same_Some, none-some}
 use Rattle.std.proofs.lemmas.Bool.Decides.{nat_tests, eqb_tells}
-use Rattle.cal_alloc.specs.Pool.{Pool, is_used, bucket_at, with_mark, given_back, IsUsedBucket}
+use Rattle.cal_alloc.specs.Pool.{Pool, is_used, bucket_of, with_mark, after_deallocation, IsUsedBucket}
 use Rattle.cal_alloc.specs.PointerOffset.{pointer_offset, offset_of}
-use Rattle.cal_queue.specs.UsedChunks.{UsedChunks, contains, inserted, removed, capacity_of}
+use Rattle.cal_queue.specs.UsedChunks.{UsedChunks, contains, after_insertion, after_removal, capacity_of}
 use Rattle.cal_transport.specs.Ledger.{Chunk}
 use Rattle.cal_transport.specs.Parts.{bucket_named}
 
@@ -30,22 +30,28 @@ not_false false e = sym e
 
 -- ---- marks
 
-pub mark_here : (pool : Pool) (bucket : ℕ) (mark : Bool) → bucket < length pool.used → is_used (with_mark pool bucket mark) bucket ≡ mark
+pub mark_here : (pool : Pool) (bucket : ℕ) (mark : Bool) → bucket < length pool.used →
+    is_used (with_mark pool bucket mark) bucket ≡ mark
 mark_here pool bucket mark within = get_or-set_same pool.used bucket mark false within
 
-pub mark_else : (pool : Pool) (bucket other : ℕ) (mark : Bool) → other ≢ bucket → is_used (with_mark pool bucket mark) other ≡ is_used pool other
+pub mark_else : (pool : Pool) (bucket other : ℕ) (mark : Bool) → other ≢ bucket →
+    is_used (with_mark pool bucket mark) other ≡ is_used pool other
 mark_else pool bucket other mark apart = get_or-set_other pool.used bucket other mark false apart
 
-pub inserted_here : (used : UsedChunks) (value : ℕ) → value < capacity_of used → contains (inserted used value) value ≡ true
+pub inserted_here : (used : UsedChunks) (value : ℕ) → value < capacity_of used →
+    contains (after_insertion used value) value ≡ true
 inserted_here used value within = get_or-set_same used.marks value true false within
 
-pub inserted_else : (used : UsedChunks) (value other : ℕ) → other ≢ value → contains (inserted used value) other ≡ contains used other
+pub inserted_else : (used : UsedChunks) (value other : ℕ) → other ≢ value →
+    contains (after_insertion used value) other ≡ contains used other
 inserted_else used value other apart = get_or-set_other used.marks value other true false apart
 
-pub removed_here : (used : UsedChunks) (value : ℕ) → value < capacity_of used → contains (removed used value) value ≡ false
+pub removed_here : (used : UsedChunks) (value : ℕ) → value < capacity_of used →
+    contains (after_removal used value) value ≡ false
 removed_here used value within = get_or-set_same used.marks value false false within
 
-pub removed_else : (used : UsedChunks) (value other : ℕ) → other ≢ value → contains (removed used value) other ≡ contains used other
+pub removed_else : (used : UsedChunks) (value other : ℕ) → other ≢ value →
+    contains (after_removal used value) other ≡ contains used other
 removed_else used value other apart = get_or-set_other used.marks value other false false apart
 
 -- ---- pointers
@@ -53,27 +59,29 @@ removed_else used value other apart = get_or-set_other used.marks value other fa
 pub offset_of-pointer : (offset : ℕ) → offset_of (pointer_offset offset 0) ≡ offset
 offset_of-pointer offset = omega arith
 
-pub bucket_at-pointer : (pool : Pool) (bucket : ℕ) → 1 ≤ pool.buckets.size →
-    bucket_at pool (pointer_offset (bucket * pool.buckets.size) 0) ≡ bucket
-bucket_at-pointer pool bucket size = ap (λ n. n / pool.buckets.size) (offset_of-pointer (bucket * pool.buckets.size)) ∙ mul-div_cancel bucket size
+pub bucket_of-pointer : (pool : Pool) (bucket : ℕ) → 1 ≤ pool.buckets.size →
+    bucket_of pool (pointer_offset (bucket * pool.buckets.size) 0) ≡ bucket
+bucket_of-pointer pool bucket size = ap (λ n. n / pool.buckets.size) (offset_of-pointer (bucket * pool.buckets.size))
+    ∙ mul-div_cancel bucket size
 
 -- a marked bucket's pointer is one that the pool takes back
 pub pointer_used : (pool : Pool) (bucket : ℕ) → 1 ≤ pool.buckets.size → is_used pool bucket ≡ true →
     IsUsedBucket pool (pointer_offset (bucket * pool.buckets.size) 0)
 pointer_used pool bucket size used =
-    let at = bucket_at-pointer pool bucket size in
+    let at = bucket_of-pointer pool bucket size in
     record {
       at_start = offset_of-pointer (bucket * pool.buckets.size) ∙ ap (λ b. b * pool.buckets.size) (sym at);
       is_used = ap (is_used pool) at ∙ used;
     }
 
-pub given_back-pointer : (pool : Pool) (bucket : ℕ) → 1 ≤ pool.buckets.size →
-    given_back pool (pointer_offset (bucket * pool.buckets.size) 0) ≡ with_mark pool bucket false
-given_back-pointer pool bucket size = ap (λ b. with_mark pool b false) (bucket_at-pointer pool bucket size)
+pub after_deallocation-pointer : (pool : Pool) (bucket : ℕ) → 1 ≤ pool.buckets.size →
+    after_deallocation pool (pointer_offset (bucket * pool.buckets.size) 0) ≡ with_mark pool bucket false
+after_deallocation-pointer pool bucket size = ap (λ b. with_mark pool b false) (bucket_of-pointer pool bucket size)
 
 -- the bucket of a name is that of the chunk that has it, where none before it does
 pub bucket_named-at : (chunks : List Chunk) (i : ℕ) (chunk : Chunk) → slice_get chunks i ≡ Some chunk →
-    ((j : ℕ) (x : Chunk) → slice_get chunks j ≡ Some x → j ≢ i → x.name ≢ chunk.name) → bucket_named chunks chunk.name ≡ chunk.bucket
+    ((j : ℕ) (x : Chunk) → slice_get chunks j ≡ Some x → j ≢ i → x.name ≢ chunk.name) →
+    bucket_named chunks chunk.name ≡ chunk.bucket
 bucket_named-at [] i chunk e apart = absurd (none-some chunk e)
 bucket_named-at (x ∷ chunks) zero chunk e apart =
     let here = same_Some x chunk e in
@@ -99,14 +107,16 @@ pub record HasMark (old new : Pool) (bucket : ℕ) (mark : Bool) : Type 0 where
 
 pub kept_or_freed : (pool : Pool) (bucket value : ℕ) (kept : Bool) → 1 ≤ pool.buckets.size → bucket < length pool.used →
     is_used pool bucket ≡ true → value ≡ pointer_offset (bucket * pool.buckets.size) 0 →
-    HasMark pool (cond kept pool (given_back pool value)) bucket kept
-kept_or_freed pool bucket value true size within used e = record { ready = refl; buckets = refl; long = refl; here = used; else = λ other apart. refl }
+    HasMark pool (cond kept pool (after_deallocation pool value)) bucket kept
+kept_or_freed pool bucket value true size within used e =
+    record { ready = refl; buckets = refl; long = refl; here = used; else = λ other apart. refl }
 kept_or_freed pool bucket value false size within used e =
-    let freed : given_back pool value ≡ with_mark pool bucket false = ap (given_back pool) e ∙ given_back-pointer pool bucket size in
+    let freed : after_deallocation pool value ≡ with_mark pool bucket false = ap (after_deallocation pool) e
+    ∙ after_deallocation-pointer pool bucket size in
     record {
       ready = refl;
       buckets = refl;
-      long = length-set pool.used (bucket_at pool value) false;
+      long = length-set pool.used (bucket_of pool value) false;
       here = ap (λ q. is_used q bucket) freed ∙ mark_here pool bucket false within;
       else = λ other apart. ap (λ q. is_used q other) freed ∙ mark_else pool bucket other false apart;
     }

@@ -17,3 +17,4 @@ pub mod Transits
 pub mod Update
 pub mod Writes
 pub mod Writing
+mod Serving

@@ -58,13 +58,15 @@ slot chunk segment place = record { chunk = chunk; segment = segment; place = pl
 abbrev pub OneChunk : Type 0
 OneChunk = IsRun (static_settings 1 1 1)
     (Loan 8 8 ∷ Write 1 0 (123 ∷ 0 ∷ []) ∷ Send 0 1 ∷ Receive 0 ∷ Read 0 1 0 2 ∷ [])
-    (Loaned (slot 1 0 0) ∷ Written ∷ Sent None ∷ Received (Some (slot 1 0 0)) ∷ Shown (123 ∷ 0 ∷ []) ∷ Transit 0 (slot 1 0 0) ∷ [])
+    (Loaned (slot 1 0 0) ∷ Written ∷ Sent None ∷ Received (Some (slot 1 0 0)) ∷ Shown (123 ∷ 0 ∷ []) ∷ Transit 0
+    (slot 1 0 0) ∷ [])
 
 -- each refusal of a static memory's loan, the first that holds
 abbrev pub RefusedLoans : Type 0
 RefusedLoans = IsRun (static_settings 1 1 1)
     (Loan 16 16 ∷ Loan 16 8 ∷ Loan 8 8 ∷ Loan 8 8 ∷ Loan 4 3 ∷ [])
-    (Refused ExceedsMaxSupportedAlignment ∷ Refused SizeTooLarge ∷ Loaned (slot 3 0 0) ∷ Refused OutOfMemory ∷ Refused BadLayout ∷ [])
+    (Refused ExceedsMaxSupportedAlignment ∷ Refused SizeTooLarge ∷ Loaned (slot 3 0 0) ∷ Refused OutOfMemory ∷ Refused
+    BadLayout ∷ [])
 
 -- memory that grows by powers of two: a larger chunk gets a new segment, and the small one stays where it is
 abbrev pub GrowsByPowers : Type 0
@@ -82,7 +84,8 @@ GrowsByPowers = IsRun
       channels = 1;
     })
     (Loan 2 2 ∷ Write 1 0 (123 ∷ 0 ∷ []) ∷ Loan 8 8 ∷ Discard 3 ∷ Count ∷ Send 0 1 ∷ Receive 0 ∷ Read 0 1 0 2 ∷ [])
-    (Loaned (slot 1 0 20) ∷ Written ∷ Loaned (slot 3 1 0) ∷ Discarded ∷ Counted (record { active = 2; mapped = 0; current = 1; size = 8; buckets = 8 })
+    (Loaned (slot 1 0 20) ∷ Written ∷ Loaned (slot 3 1 0) ∷ Discarded ∷ Counted
+    (record { active = 2; mapped = 0; current = 1; size = 8; buckets = 8 })
     ∷ Sent None ∷ Received (Some (slot 1 0 20)) ∷ Shown (123 ∷ 0 ∷ []) ∷ Transit 0 (slot 1 0 20) ∷ [])
 
 -- where each of four buckets is used, a best fit is one more of the padded size; a power of two is twice as many
@@ -108,11 +111,13 @@ four_slots = Loaned (slot 1 0 0) ∷ Loaned (slot 2 0 1024) ∷ Loaned (slot 3 0
 
 abbrev pub BestFitGrows : Type 0
 BestFitGrows = IsRun (four_large BestFit) four_loans
-    (four_slots ++ Loaned (slot 5 1 0) ∷ Counted (record { active = 2; mapped = 0; current = 1; size = 1504; buckets = 5 }) ∷ [])
+    (four_slots ++ Loaned (slot 5 1 0) ∷ Counted
+    (record { active = 2; mapped = 0; current = 1; size = 1504; buckets = 5 }) ∷ [])
 
 abbrev pub PowerOfTwoGrows : Type 0
 PowerOfTwoGrows = IsRun (four_large PowerOfTwo) four_loans
-    (four_slots ++ Loaned (slot 5 1 2048) ∷ Counted (record { active = 2; mapped = 0; current = 1; size = 2048; buckets = 8 }) ∷ [])
+    (four_slots ++ Loaned (slot 5 1 2048) ∷ Counted
+    (record { active = 2; mapped = 0; current = 1; size = 2048; buckets = 8 }) ∷ [])
 
 -- a send on a full channel takes the oldest chunk back, and the receiver borrows no more than it may
 abbrev pub OverflowTakesTheOldest : Type 0
@@ -146,8 +151,10 @@ abbrev pub CompletionQueueHoldsThree : Type 0
 CompletionQueueHoldsThree = IsRun (static_settings 3 1 1)
     (Loan 1 1 ∷ Loan 1 1 ∷ Loan 1 1 ∷ Send 0 1 ∷ Receive 0 ∷ Reclaim 0 ∷ Send 0 2 ∷ Reclaim 0 ∷ Release 0 1 ∷ Receive 0
     ∷ Send 0 3 ∷ Release 0 2 ∷ Receive 0 ∷ Release 0 3 ∷ [])
-    (Loaned (slot 1 0 0) ∷ Loaned (slot 2 0 8) ∷ Loaned (slot 3 0 16) ∷ Sent None ∷ Received (Some (slot 1 0 0)) ∷ Reclaimed None
-    ∷ Sent None ∷ Reclaimed None ∷ Released ∷ Received (Some (slot 2 0 8)) ∷ Sent None ∷ Released ∷ Received (Some (slot 3 0 16))
+    (Loaned (slot 1 0 0) ∷ Loaned (slot 2 0 8) ∷ Loaned (slot 3 0 16) ∷ Sent None ∷ Received (Some (slot 1 0 0)) ∷
+    Reclaimed None
+    ∷ Sent None ∷ Reclaimed None ∷ Released ∷ Received (Some (slot 2 0 8)) ∷ Sent None ∷ Released ∷ Received
+    (Some (slot 3 0 16))
     ∷ Released ∷ Transit 0 (slot 1 0 0) ∷ Transit 0 (slot 2 0 8) ∷ Transit 0 (slot 3 0 16) ∷ [])
 
 -- the fourth release finds it full, until the sender reclaims
@@ -198,7 +205,8 @@ ManySegments = IsRun
       segments = 4;
       channels = 2;
     })
-    (Loan 8 8 ∷ Loan 16 8 ∷ Loan 24 8 ∷ Send 1 1 ∷ Send 0 3 ∷ Send 0 2 ∷ Receive 0 ∷ Receive 1 ∷ Release 1 1 ∷ Count ∷ [])
+    (Loan 8 8 ∷ Loan 16 8 ∷ Loan 24 8 ∷ Send 1 1 ∷ Send 0 3 ∷ Send 0 2 ∷ Receive 0 ∷ Receive 1 ∷ Release 1 1 ∷ Count ∷
+    [])
     (Loaned (slot 1 0 0) ∷ Loaned (slot 2 1 0) ∷ Loaned (slot 3 2 0) ∷ Sent None ∷ Sent None ∷ Sent None
     ∷ Received (Some (slot 3 2 0)) ∷ Received (Some (slot 1 0 0)) ∷ Released
     ∷ Counted (record { active = 3; mapped = 2; current = 2; size = 24; buckets = 2 })
@@ -208,9 +216,11 @@ ManySegments = IsRun
 abbrev pub SegmentsRetire : Type 0
 SegmentsRetire = IsRun (growing_settings BestFit)
     (Loan 8 8 ∷ Loan 16 8 ∷ Count ∷ Discard 1 ∷ Count ∷ Discard 2 ∷ Loan 32 8 ∷ Count ∷ [])
-    (Loaned (slot 1 0 0) ∷ Loaned (slot 2 1 16) ∷ Counted (record { active = 2; mapped = 0; current = 1; size = 16; buckets = 2 })
+    (Loaned (slot 1 0 0) ∷ Loaned (slot 2 1 16) ∷ Counted
+    (record { active = 2; mapped = 0; current = 1; size = 16; buckets = 2 })
     ∷ Discarded ∷ Counted (record { active = 1; mapped = 0; current = 1; size = 16; buckets = 2 })
-    ∷ Discarded ∷ Loaned (slot 7 2 0) ∷ Counted (record { active = 1; mapped = 0; current = 2; size = 32; buckets = 2 }) ∷ [])
+    ∷ Discarded ∷ Loaned (slot 7 2 0) ∷ Counted (record { active = 1; mapped = 0; current = 2; size = 32; buckets = 2 })
+    ∷ [])
 
 -- what came back by overflow and isn't loaned is free again
 abbrev pub OverflowFreesABucket : Type 0
@@ -246,7 +256,8 @@ RefusalsOnTheWay = IsRun
       segments = 1;
       channels = 1;
     })
-    (Loan 0 1 ∷ Send 0 1 ∷ Send 0 1 ∷ Write 1 0 (1 ∷ []) ∷ Read 0 1 0 1 ∷ Receive 0 ∷ Release 0 1 ∷ Release 0 1 ∷ Reclaim 0
+    (Loan 0 1 ∷ Send 0 1 ∷ Send 0 1 ∷ Write 1 0 (1 ∷ []) ∷ Read 0 1 0 1 ∷ Receive 0 ∷ Release 0 1 ∷ Release 0 1 ∷
+    Reclaim 0
     ∷ Send 0 1 ∷ Send 1 1 ∷ Send 0 5 ∷ Receive 9 ∷ Discard 1 ∷ Discard 1 ∷ [])
     (Loaned (slot 1 0 0) ∷ Sent None ∷ Refused AlreadyInTransit ∷ Refused WriteAfterSend ∷ Refused NotBorrowed
     ∷ Received (Some (slot 1 0 0)) ∷ Released ∷ Refused NotBorrowed ∷ Reclaimed (Some (slot 1 0 0)) ∷ Sent None
@@ -269,7 +280,8 @@ WritesStayInside = IsRun
       channels = 1;
     })
     (Loan 32 16 ∷ Write 1 32 [] ∷ Write 1 32 (0 ∷ []) ∷ Count ∷ [])
-    (Loaned (slot 1 0 32) ∷ Written ∷ Refused OutsideChunk ∷ Counted (record { active = 1; mapped = 0; current = 0; size = 32; buckets = 2 }) ∷ [])
+    (Loaned (slot 1 0 32) ∷ Written ∷ Refused OutsideChunk ∷ Counted
+    (record { active = 1; mapped = 0; current = 0; size = 32; buckets = 2 }) ∷ [])
 
 -- growth is refused where no memory supports the alignment, and where the segment would be too large
 abbrev pub RefusedGrowth : Type 0
@@ -292,7 +304,7 @@ LastSegmentRefuses = cause crowded_ledger (Loan 16 8) ≡ Some MaxReallocationsR
 abbrev pub GivenBackOnce : Type 0
 GivenBackOnce = cause
     (record (first_ledger (static_settings 1 1 1)) {
-      channels = record { sent = 1 ∷ 1 ∷ []; left = []; released = []; reclaimed = [] } ∷ [];
+      histories = record { sent = 1 ∷ 1 ∷ []; departures = []; released = []; reclaimed = [] } ∷ [];
     })
     (Release 0 1) ≡ Some NotBorrowed
 

@@ -2,14 +2,16 @@ pub use Rattle.cal_alloc.specs.Growth
 pub mod Replies
 pub mod Settings
 pub mod Ledger
+pub mod LoanCause
 pub mod Cause
 pub mod Step
 pub mod Built
-pub mod Entry
+pub mod ChunkRecord
 pub mod Parts
 pub mod PartsOf
 pub mod Rules
 pub mod Transit
 pub mod Run
 pub mod Examples
+pub mod OrderExamples
 pub mod Serve

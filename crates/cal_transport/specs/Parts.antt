@@ -5,14 +5,14 @@ use Rattle.cal_alloc.specs.PointerOffset.{pointer_offset}
 use Rattle.cal_queue.specs.Queue.{Queue}
 use Rattle.cal_queue.specs.UsedChunks.{UsedChunks, contains, capacity_of}
 use Rattle.cal_transport.specs.declared.settings.Settings.{Settings}
-use Rattle.cal_transport.specs.declared.entry.Entry.{Entry}
+use Rattle.cal_transport.specs.declared.chunk_record.ChunkRecord.{ChunkRecord}
 use Rattle.cal_transport.specs.declared.command.Command.{Command}
 use Rattle.cal_transport.specs.declared.reply.Reply.{Reply}
-use Rattle.cal_transport.specs.Settings.{first_buckets, completion_size}
-use Rattle.cal_transport.specs.Entry.{AreRising}
-use Rattle.cal_transport.specs.Ledger.{Ledger, Chunk, Channel, received, occurrences, queued, completed, is_borrowed, borrow_count, is_in_transit}
-use Rattle.cal_transport.specs.Cause.{is_static}
-use Rattle.cal_transport.specs.Step.{Answers, after}
+use Rattle.cal_transport.specs.Settings.{first_layout, completion_size}
+use Rattle.cal_transport.specs.ChunkRecord.{AreRising}
+use Rattle.cal_transport.specs.Ledger.{Ledger, Chunk, ChannelHistory, received_names, occurrences, queued_names, completed_names, is_borrowed, borrow_count, is_in_transit}
+use Rattle.cal_transport.specs.LoanCause.{is_static}
+use Rattle.cal_transport.specs.Step.{IsStep, after_step}
 
 -- the values of a transport's parts; the last number tells for how many more chunks there is room
 pub record Parts : Type 0 where
@@ -23,51 +23,52 @@ pub record Parts : Type 0 where
   pub completions : Queue
   pub used : UsedChunks
   pub borrowed : ℕ
-  pub entries : List Entry
-  pub owners : List ℕ
+  pub records : List ChunkRecord
+  pub record_indices : List ℕ
   pub room : ℕ
 
 -- ---- the ledger that the parts show, but for what no part keeps
 
 -- the chunks, the one channel's history, and the segment that the view opened
-pub record Shown : Type 0 where
+pub record LedgerRest : Type 0 where
   pub chunks : List Chunk
-  pub channel : Channel
-  pub shown : Option ℕ
+  pub channel : ChannelHistory
+  pub opened_last : Option ℕ
 
 -- one segment, and one channel
-abbrev pub ledger_of : Parts → Shown → Ledger
+abbrev pub ledger_of : Parts → LedgerRest → Ledger
 ledger_of p w = record {
   settings = p.settings;
   segments = p.pool.buckets ∷ [];
   chunks = w.chunks;
-  channels = w.channel ∷ [];
-  shown = w.shown;
+  histories = w.channel ∷ [];
+  opened_last = w.opened_last;
 }
 
 -- ---- a channel
 
 -- how often a name is queued, borrowed or completed
-abbrev pub weight : Channel → ℕ → ℕ
+abbrev pub weight : ChannelHistory → ℕ → ℕ
 weight c name =
-    occurrences name (queued c) + (occurrences name (received c.left) - occurrences name c.released) + occurrences name (completed c)
+    occurrences name (queued_names c) + (occurrences name (received_names c.departures) - occurrences name c.released) +
+    occurrences name (completed_names c)
 
 -- each chunk is on its way once at most, and nothing comes back that didn't go
-pub record IsOrderly (c : Channel) : Type 0 where
-  pub left_sent : length c.left ≤ length c.sent
-  pub released_received : length c.released ≤ length (received c.left)
+pub record IsOrderly (c : ChannelHistory) : Type 0 where
+  pub left_sent : length c.departures ≤ length c.sent
+  pub released_received : length c.released ≤ length (received_names c.departures)
   pub reclaimed_released : length c.reclaimed ≤ length c.released
-  pub named : (name : ℕ) → occurrences name c.released ≤ occurrences name (received c.left)
+  pub named : (name : ℕ) → occurrences name c.released ≤ occurrences name (received_names c.departures)
   pub once : (name : ℕ) → weight c name ≤ 1
 
 -- ---- chunks
 
-abbrev pub lives : Channel → Chunk → Bool
-lives c chunk = chunk.loaned || is_in_transit c chunk.name
+abbrev pub is_live_on : ChannelHistory → Chunk → Bool
+is_live_on c chunk = chunk.loaned || is_in_transit c chunk.name
 
 -- what the transport keeps of a chunk
-abbrev pub entry_of : Channel → Chunk → Entry
-entry_of c chunk = record {
+abbrev pub record_of : ChannelHistory → Chunk → ChunkRecord
+record_of c chunk = record {
   name = chunk.name;
   bucket = chunk.bucket;
   loaned = chunk.loaned;
@@ -89,22 +90,22 @@ bytes_at memory place size = take size (drop place memory)
 
 -- a live chunk has its bucket: it is marked, leads back to the chunk and holds its bytes; the used list tells whether
 -- it is in transit
-pub record HasBucket (p : Parts) (c : Channel) (index : ℕ) (chunk : Chunk) : Type 0 where
+pub record HasBucket (p : Parts) (c : ChannelHistory) (index : ℕ) (chunk : Chunk) : Type 0 where
   pub marked : is_used p.pool chunk.bucket ≡ true
-  pub owner : slice_get p.owners chunk.bucket ≡ Some index
+  pub owner : slice_get p.record_indices chunk.bucket ≡ Some index
   pub bytes : bytes_at p.memory (chunk.bucket * p.pool.buckets.size) p.pool.buckets.size ≡ chunk.bytes
   pub in_use : chunk.bucket < p.settings.samples → contains p.used chunk.bucket ≡ is_in_transit c chunk.name
 
 -- a marked bucket is that of a live chunk
-pub record IsOccupied (w : Shown) (bucket : ℕ) : Type 0 where
+pub record IsOccupied (w : LedgerRest) (bucket : ℕ) : Type 0 where
   pub index : ℕ
   pub chunk : Chunk
   pub stands : slice_get w.chunks index ≡ Some chunk
-  pub alive : lives w.channel chunk ≡ true
+  pub alive : is_live_on w.channel chunk ≡ true
   pub there : chunk.bucket ≡ bucket
 
 -- a chunk in transit is one that was loaned, and the connection can name its bucket
-pub record IsKnown (p : Parts) (w : Shown) (name : ℕ) : Type 0 where
+pub record IsKnown (p : Parts) (w : LedgerRest) (name : ℕ) : Type 0 where
   pub index : ℕ
   pub chunk : Chunk
   pub stands : slice_get w.chunks index ≡ Some chunk
@@ -131,13 +132,13 @@ pub record AreBuilt (s : Settings) : Type 0 where
 -- the pool serves, and its memory and tables are as large as it is
 pub record IsReady (p : Parts) : Type 0 where
   pub ready : p.pool.is_ready ≡ true
-  pub first : p.pool.buckets ≡ first_buckets p.settings
+  pub first : p.pool.buckets ≡ first_layout p.settings
   pub size : 1 ≤ p.pool.buckets.size
   pub payload : p.pool.buckets.size * p.pool.buckets.count ≤ 2 ^ 56
   pub count : p.pool.buckets.count < 2 ^ 32
   pub marks : length p.pool.used ≡ p.pool.buckets.count
   pub memory : length p.memory ≡ p.pool.buckets.size * p.pool.buckets.count
-  pub owners : length p.owners ≡ p.pool.buckets.count
+  pub record_indices : length p.record_indices ≡ p.pool.buckets.count
   pub used : capacity_of p.used ≡ p.settings.samples
   pub submissions : p.submissions.capacity ≡ p.settings.buffer
   pub submissions_fit : length p.submissions.values ≤ p.submissions.capacity
@@ -145,17 +146,17 @@ pub record IsReady (p : Parts) : Type 0 where
   pub completions_fit : length p.completions.values ≤ p.completions.capacity
 
 -- the parts show these chunks and this channel
-pub record Show (p : Parts) (w : Shown) : Type 0 where
+pub record AgreesWith (p : Parts) (w : LedgerRest) : Type 0 where
   pub settings : AreBuilt p.settings
   pub ready : IsReady p
   pub orderly : IsOrderly w.channel
-  pub submissions : p.submissions.values ≡ map (pointer_to p.pool.buckets.size w.chunks) (queued w.channel)
-  pub completions : p.completions.values ≡ map (pointer_to p.pool.buckets.size w.chunks) (completed w.channel)
+  pub submissions : p.submissions.values ≡ map (pointer_to p.pool.buckets.size w.chunks) (queued_names w.channel)
+  pub completions : p.completions.values ≡ map (pointer_to p.pool.buckets.size w.chunks) (completed_names w.channel)
   pub borrowed : p.borrowed ≡ borrow_count w.channel
-  pub entries : p.entries ≡ map (entry_of w.channel) w.chunks
-  pub rising : AreRising p.entries
+  pub records : p.records ≡ map (record_of w.channel) w.chunks
+  pub rising : AreRising p.records
   pub placed : (index : ℕ) (chunk : Chunk) → slice_get w.chunks index ≡ Some chunk → IsPlaced p chunk
-  pub housed : (index : ℕ) (chunk : Chunk) → slice_get w.chunks index ≡ Some chunk → lives w.channel chunk ≡ true →
+  pub housed : (index : ℕ) (chunk : Chunk) → slice_get w.chunks index ≡ Some chunk → is_live_on w.channel chunk ≡ true →
       HasBucket p w.channel index chunk
   pub occupied : (bucket : ℕ) → is_used p.pool bucket ≡ true → IsOccupied w bucket
   pub unused : (bucket : ℕ) → is_used p.pool bucket ≡ false → contains p.used bucket ≡ false
@@ -164,19 +165,20 @@ pub record Show (p : Parts) (w : Shown) : Type 0 where
 -- the pool of a new transport: every bucket is free
 abbrev pub first_pool : Settings → Pool
 first_pool s = record {
-  buckets = first_buckets s;
+  buckets = first_layout s;
   memory_alignment = 4096;
   used = replicate s.count false;
   is_ready = true;
 }
 
 -- a transport stands for a ledger: its parts show it
-pub record StandsFor (p : Parts) (l : Ledger) : Type 0 where
-  pub shown : Shown
-  pub made : l ≡ ledger_of p shown
-  pub show : Show p shown
+pub record Represents (p : Parts) (l : Ledger) : Type 0 where
+  pub rest : LedgerRest
+  pub made : l ≡ ledger_of p rest
+  pub show : AgreesWith p rest
 
--- whichever ledger the transport stood for, the reply answers the command there, and the transport stands for the ledger after it
+-- whichever ledger the transport stood for, the reply answers the command there, and the transport stands for the
+-- ledger after it
 abbrev pub Does : Parts → ℕ → Command → Reply → Parts → Type 0
-Does old place asked reply new = (l : Ledger) → StandsFor old l →
-    Answers l place asked reply × StandsFor new (after l place asked reply)
+Does old place asked reply new = (l : Ledger) → Represents old l →
+    IsStep l place asked reply × Represents new (after_step l place asked reply)

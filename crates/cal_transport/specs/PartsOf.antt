@@ -1,7 +1,7 @@
 -- How a transport's fields are seen: as the values of its parts, which show some ledger.
 use Rattle.std.specs.Prelude.{◌-◌, vec_len, vec_capacity}
 use Rattle.cal_transport.specs.declared.transport.Transport.TheInside.{Inside}
-use Rattle.cal_transport.specs.Parts.{Parts, Shown, Show}
+use Rattle.cal_transport.specs.Parts.{Parts, LedgerRest, AgreesWith}
 
 abbrev pub parts_of : Inside → Parts
 parts_of t = record {
@@ -12,10 +12,10 @@ parts_of t = record {
   completions = t.completions;
   used = t.used;
   borrowed = t.borrowed;
-  entries = t.entries.items;
-  owners = t.owners.items;
-  room = vec_capacity t.entries - vec_len t.entries;
+  records = t.records.items;
+  record_indices = t.record_indices.items;
+  room = vec_capacity t.records - vec_len t.records;
 }
 
 abbrev pub IsSound : Inside → Type 0
-IsSound t = (w : Shown) × Show (parts_of t) w
+IsSound t = (w : LedgerRest) × AgreesWith (parts_of t) w

@@ -5,7 +5,7 @@ use Rattle.cal_alloc.specs.declared.shm_allocator.ShmAllocationError.TheVariants
 use Rattle.cal_transport.specs.declared.reply.Refusal.TheVariants as refusal
 use Rattle.cal_queue.specs.Queue.{is_full}
 use Rattle.cal_queue.specs.UsedChunks.{contains}
-use Rattle.cal_transport.specs.declared.entry.Entry.{Entry}
+use Rattle.cal_transport.specs.declared.chunk_record.ChunkRecord.{ChunkRecord}
 use Rattle.cal_transport.specs.declared.command.Command.{Command}
 use Rattle.cal_transport.specs.declared.command.Command.TheVariants as command
 use Rattle.cal_transport.specs.declared.reply.Reply.{Reply}
@@ -18,14 +18,14 @@ use Rattle.cal_transport.specs.Parts.{Parts, Does}
 
 -- ---- rules
 
-abbrev pub write_rule : Parts → Entry → ℕ → ℕ → Option Refusal
+abbrev pub write_rule : Parts → ChunkRecord → ℕ → ℕ → Option Refusal
 write_rule p entry at length =
     if not entry.loaned then Some NotLoaned
     else if entry.sent then Some WriteAfterSend
     else if nat_lt p.pool.buckets.size (at + length) then Some OutsideChunk
     else None
 
-abbrev pub send_rule : Parts → ℕ → Entry → Option Refusal
+abbrev pub send_rule : Parts → ℕ → ChunkRecord → Option Refusal
 send_rule p channel entry =
     if not entry.loaned then Some NotLoaned
     else if nat_le p.settings.channels channel || nat_le p.settings.samples entry.bucket then Some OutsideConnection
@@ -40,14 +40,14 @@ receive_rule p channel =
     else None
 
 -- of a channel that is there
-abbrev pub read_rule : Parts → Entry → ℕ → ℕ → Option Refusal
+abbrev pub read_rule : Parts → ChunkRecord → ℕ → ℕ → Option Refusal
 read_rule p entry at length =
     if not entry.borrowed then Some NotBorrowed
     else if nat_lt p.pool.buckets.size (at + length) then Some OutsideChunk
     else None
 
 -- of a channel that is there
-abbrev pub release_rule : Parts → Entry → Option Refusal
+abbrev pub release_rule : Parts → ChunkRecord → Option Refusal
 release_rule p entry =
     if not entry.borrowed then Some NotBorrowed
     else if is_full p.completions then Some RetrieveBufferFull
@@ -95,7 +95,8 @@ ReceiveDoes old channel (Err refusal) new = DoesAnywhere old (command.Receive ch
 -- a read changes nothing
 abbrev pub ReadDoes : Parts → ℕ → ℕ → ℕ → ℕ → Result (Bor (List ℕ)) Refusal → Type 0
 ReadDoes p channel name at length (Ok bytes) = DoesAnywhere p (command.Read channel name at length) (Shown bytes.now) p
-ReadDoes p channel name at length (Err refusal) = DoesAnywhere p (command.Read channel name at length) (Refused refusal) p
+ReadDoes p channel name at length (Err refusal) = DoesAnywhere p (command.Read channel name at length) (Refused refusal)
+    p
 
 abbrev pub ReleaseDoes : Parts → ℕ → ℕ → Result (Unit {0}) Refusal → Parts → Type 0
 ReleaseDoes old channel name (Ok done) new = DoesAnywhere old (command.Release channel name) Released new

@@ -1,14 +1,14 @@
 -- Settings as they count, and why a transport can't be made with them.
 use Rattle.std.specs.Prelude.{ℕ, ◌+◌, ◌*◌, ◌^◌, ◌<◌, ◌≤◌, ◌≡◌, max, Bool, true, not, ◌||◌, ◌==◌, nat_lt, nat_le, if◌then◌else◌, Option, Some, None}
 use Rattle.std.specs.Int.{is_power_of_two}
-use Rattle.cal_alloc.specs.Growth.{Buckets, padded_size}
+use Rattle.cal_alloc.specs.Growth.{SegmentLayout, padded_size}
 use Rattle.cal_transport.specs.declared.settings.Settings.{Settings}
 use Rattle.cal_transport.specs.declared.settings.CreateCause.{CreateCause}
 use Rattle.cal_transport.specs.declared.settings.CreateCause.TheVariants.{BadLayout, SizeOutOfRange, SizeIsZero, InternalError}
 
 -- a zero buffer, borrow limit, number of samples, of segments or of channels counts as one
-abbrev pub clamped : Settings → Settings
-clamped s = record s {
+abbrev pub clamped_settings : Settings → Settings
+clamped_settings s = record s {
   buffer = max 1 s.buffer;
   borrow = max 1 s.borrow;
   samples = max 1 s.samples;
@@ -17,19 +17,19 @@ clamped s = record s {
 }
 
 -- the first segment's buckets
-abbrev pub first_buckets : Settings → Buckets
-first_buckets s = record { size = padded_size s.size s.alignment; alignment = s.alignment; count = s.count }
+abbrev pub first_layout : Settings → SegmentLayout
+first_layout s = record { size = padded_size s.size s.alignment; alignment = s.alignment; count = s.count }
 
 -- how many chunks the completion queue of a channel holds
 abbrev pub completion_size : Settings → ℕ
 completion_size s = s.buffer + s.borrow + 1
 
 -- the bytes of a segment of these buckets
-abbrev pub payload : Buckets → ℕ
+abbrev pub payload : SegmentLayout → ℕ
 payload buckets = buckets.size * buckets.count
 
 -- a segment of these buckets is larger than any can be
-abbrev pub is_too_large : Buckets → Bool
+abbrev pub is_too_large : SegmentLayout → Bool
 is_too_large buckets = nat_lt (2 ^ 56) (payload buckets) || nat_le (2 ^ 32) buckets.count
 
 -- a connection with these settings is larger than any can be
@@ -41,8 +41,8 @@ has_too_large_connection s =
 abbrev pub create_cause : Settings → Option CreateCause
 create_cause s =
     if not (is_power_of_two s.alignment) then Some BadLayout
-    else if is_too_large (first_buckets s) || has_too_large_connection (clamped s) then Some SizeOutOfRange
-    else if payload (first_buckets s) == 0 then Some SizeIsZero
+    else if is_too_large (first_layout s) || has_too_large_connection (clamped_settings s) then Some SizeOutOfRange
+    else if payload (first_layout s) == 0 then Some SizeIsZero
     else if nat_lt 4096 s.alignment then Some InternalError
     else None
 
@@ -54,5 +54,5 @@ pub record CanMake (s : Settings) : Type 0 where
   pub size : 1 ≤ s.size
   pub count : 1 ≤ s.count
   pub few : s.count < 2 ^ 32
-  pub payload : payload (first_buckets s) ≤ 2 ^ 56
-  pub completions : completion_size (clamped s) < 2 ^ 63
+  pub payload : payload (first_layout s) ≤ 2 ^ 56
+  pub completions : completion_size (clamped_settings s) < 2 ^ 63

@@ -7,8 +7,9 @@ use Rattle.cal_transport.specs.declared.reply.Reply.TheVariants.{Loaned, Written
 use Rattle.cal_transport.specs.declared.reply.Slot.{Slot}
 use Rattle.cal_transport.specs.declared.reply.Count.{Count}
 use Rattle.cal_transport.specs.declared.reply.Refusal.{Refusal}
-use Rattle.cal_transport.specs.Ledger.{Ledger, Chunk, Channel, ByReceive, ByOverflow, channel_at, buckets_at, current, chunk_named, is_free, is_mapped, queued, completed, active_segments, mapped_segments}
-use Rattle.cal_transport.specs.Cause.{cause, serves, next_segment, is_buffer_full}
+use Rattle.cal_transport.specs.Ledger.{Ledger, Chunk, ChannelHistory, ByReceive, ByOverflow, history_on, layout_at, current, chunk_named, is_free, is_mapped, queued_names, completed_names, active_segments, mapped_segments}
+use Rattle.cal_transport.specs.LoanCause.{serves, next_segment}
+use Rattle.cal_transport.specs.Cause.{cause, current_segment, is_buffer_full}
 
 -- ---- slots
 
@@ -22,7 +23,7 @@ abbrev pub slot_of : Ledger → Chunk → Slot
 slot_of l chunk = record {
   chunk = chunk.name;
   segment = chunk.segment;
-  place = chunk.bucket * (buckets_at l chunk.segment).size;
+  place = chunk.bucket * (layout_at l chunk.segment).size;
 }
 
 -- where the chunk of that name lies, if there is one of that name
@@ -33,10 +34,10 @@ slot_named l (Some name) = option_map (slot_of l) (chunk_named l name)
 -- ---- the change of each command that has no cause
 
 -- the next segment is made where the current one doesn't serve
-abbrev pub grown : Ledger → ℕ → ℕ → Ledger
-grown l size alignment =
-    if serves l size alignment then l
-    else record l { segments = l.segments ++ next_segment l size alignment ∷ [] }
+abbrev pub grown_ledger : Ledger → ℕ → ℕ → Ledger
+grown_ledger l size alignment =
+    if serves (current_segment l) size alignment then l
+    else record l { segments = l.segments ++ next_segment (current_segment l) size alignment ∷ [] }
 
 -- a chunk that was just loaned: its bytes are zeros, as many as the bucket has
 abbrev pub new_chunk : ℕ → ℕ → ℕ → ℕ → Chunk
@@ -50,90 +51,95 @@ new_chunk name segment bucket size = record {
 }
 
 -- a chunk of that name takes the bucket at a place of the current segment
-abbrev pub loaned_at : Ledger → ℕ → ℕ → Ledger
-loaned_at l name place =
-    let size = (buckets_at l (current l)).size in
+abbrev pub with_loan_at : Ledger → ℕ → ℕ → Ledger
+with_loan_at l name place =
+    let size = (layout_at l (current l)).size in
     record l { chunks = l.chunks ++ new_chunk name (current l) (place / size) size ∷ [] }
 
 -- the chunk of a name is changed, and no other
-abbrev pub changed_chunk : (Chunk → Chunk) → ℕ → List Chunk → List Chunk
-changed_chunk change name = map (λ chunk. if chunk.name == name then change chunk else chunk)
+abbrev pub with_changed_chunk : (Chunk → Chunk) → ℕ → List Chunk → List Chunk
+with_changed_chunk change name = map (λ chunk. if chunk.name == name then change chunk else chunk)
 
 abbrev pub with_chunk : Ledger → ℕ → (Chunk → Chunk) → Ledger
-with_chunk l name change = record l { chunks = changed_chunk change name l.chunks }
+with_chunk l name change = record l { chunks = with_changed_chunk change name l.chunks }
 
-abbrev pub with_channel : Ledger → ℕ → Channel → Ledger
-with_channel l number channel = record l { channels = slice_set l.channels number channel }
+abbrev pub with_history : Ledger → ℕ → ChannelHistory → Ledger
+with_history l number channel = record l { histories = slice_set l.histories number channel }
 
 -- bytes, with others put over them from a place on
-abbrev pub overwritten : List ℕ → ℕ → List ℕ → List ℕ
-overwritten bytes at others = take at bytes ++ others ++ drop (at + length others) bytes
+abbrev pub with_bytes : List ℕ → ℕ → List ℕ → List ℕ
+with_bytes bytes at others = take at bytes ++ others ++ drop (at + length others) bytes
 
 -- the chunk that a send takes back: the oldest, where the buffer is full
-abbrev pub overflowed : Ledger → Channel → Option ℕ
-overflowed l channel = if is_buffer_full l channel then front (queued channel) else None
+abbrev pub name_sent_back : Ledger → ChannelHistory → Option ℕ
+name_sent_back l channel = if is_buffer_full l channel then front (queued_names channel) else None
 
 -- the chunk is queued, and another left by overflow, if one did
-abbrev pub sent_on : Channel → ℕ → Option ℕ → Channel
-sent_on channel name back = record channel {
+abbrev pub history_after_send : ChannelHistory → ℕ → Option ℕ → ChannelHistory
+history_after_send channel name back = record channel {
   sent = channel.sent ++ name ∷ [];
-  left = channel.left ++ map ByOverflow (option_to_list back);
+  departures = channel.departures ++ map ByOverflow (option_to_list back);
 }
 
 -- the receiver takes a chunk from the queue, if there is one
-abbrev pub received_from : Channel → Option ℕ → Channel
-received_from channel taken = record channel { left = channel.left ++ map ByReceive (option_to_list taken) }
+abbrev pub history_after_receive : ChannelHistory → Option ℕ → ChannelHistory
+history_after_receive channel taken =
+    record channel { departures = channel.departures ++ map ByReceive (option_to_list taken) }
 
 -- the receiver gives a chunk back
-abbrev pub released_on : Channel → ℕ → Channel
-released_on channel name = record channel { released = channel.released ++ name ∷ [] }
+abbrev pub history_after_release : ChannelHistory → ℕ → ChannelHistory
+history_after_release channel name = record channel { released = channel.released ++ name ∷ [] }
 
 -- a completed chunk comes back to the sender, if there is one
-abbrev pub reclaimed_from : Channel → Option ℕ → Channel
-reclaimed_from channel back = record channel { reclaimed = channel.reclaimed ++ option_to_list back }
+abbrev pub history_after_reclaim : ChannelHistory → Option ℕ → ChannelHistory
+history_after_reclaim channel back = record channel { reclaimed = channel.reclaimed ++ option_to_list back }
 
 -- the view opens the segment of a received chunk, unless it has it
-abbrev pub shown_after : Ledger → Option Chunk → Option ℕ
-shown_after l None = l.shown
-shown_after l (Some chunk) = if is_mapped l chunk.segment then l.shown else Some chunk.segment
+abbrev pub opened_after_receive : Ledger → Option Chunk → Option ℕ
+opened_after_receive l None = l.opened_last
+opened_after_receive l (Some chunk) = if is_mapped l chunk.segment then l.opened_last else Some chunk.segment
 
 -- the chunk that a receive takes, if one is queued
-abbrev pub received_chunk : Ledger → Option ℕ → Option Chunk
-received_chunk l None = None
-received_chunk l (Some name) = chunk_named l name
+abbrev pub chunk_to_receive : Ledger → Option ℕ → Option Chunk
+chunk_to_receive l None = None
+chunk_to_receive l (Some name) = chunk_named l name
 
 -- what a loan changes: the reply tells the bucket
 abbrev pub after_loan : Ledger → ℕ → Reply → Ledger
-after_loan l name (Loaned slot) = loaned_at l name slot.place
+after_loan l name (Loaned slot) = with_loan_at l name slot.place
 after_loan l name reply = l
 
 -- what a command without a cause changes; its place in the list names a new chunk
-abbrev pub changed : Ledger → ℕ → Command → Reply → Ledger
-changed l place (command.Loan size alignment) reply = after_loan (grown l size alignment) place reply
-changed l place (command.Write name at bytes) reply =
-    with_chunk l name (λ chunk. record chunk { bytes = overwritten chunk.bytes at bytes })
-changed l place (command.Send channel name) reply =
-    let history = channel_at l channel in
-    with_chunk (with_channel l channel (sent_on history name (overflowed l history))) name (λ chunk. record chunk { sent = true })
-changed l place (command.Receive channel) reply =
-    let history = channel_at l channel in
-    let taken = front (queued history) in
-    record (with_channel l channel (received_from history taken)) { shown = shown_after l (received_chunk l taken) }
-changed l place (command.Release channel name) reply = with_channel l channel (released_on (channel_at l channel) name)
-changed l place (command.Reclaim channel) reply =
-    let history = channel_at l channel in
-    with_channel l channel (reclaimed_from history (front (completed history)))
-changed l place (command.Discard name) reply = with_chunk l name (λ chunk. record chunk { loaned = false })
-changed l place (command.Read channel name at length) reply = l
-changed l place command.Count reply = l
+abbrev pub after_command : Ledger → ℕ → Command → Reply → Ledger
+after_command l place (command.Loan size alignment) reply = after_loan (grown_ledger l size alignment) place reply
+after_command l place (command.Write name at bytes) reply =
+    with_chunk l name (λ chunk. record chunk { bytes = with_bytes chunk.bytes at bytes })
+after_command l place (command.Send channel name) reply =
+    let history = history_on l channel in
+    with_chunk (with_history l channel (history_after_send history name (name_sent_back l history))) name
+    (λ chunk. record chunk { sent = true })
+after_command l place (command.Receive channel) reply =
+    let history = history_on l channel in
+    let taken = front (queued_names history) in
+    record (with_history l channel (history_after_receive history taken))
+    { opened_last = opened_after_receive l (chunk_to_receive l taken) }
+after_command l place (command.Release channel name) reply =
+    with_history l channel (history_after_release (history_on l channel) name)
+after_command l place (command.Reclaim channel) reply =
+    let history = history_on l channel in
+    with_history l channel (history_after_reclaim history (front (completed_names history)))
+after_command l place (command.Discard name) reply = with_chunk l name (λ chunk. record chunk { loaned = false })
+after_command l place (command.Read channel name at length) reply = l
+after_command l place command.Count reply = l
 
 -- ---- the reply that each command without a cause owes
 
 -- a place of the current segment is the start of a bucket that is free
 abbrev pub is_free_place : Ledger → ℕ → Bool
 is_free_place l place =
-    let buckets = buckets_at l (current l) in
-    place % buckets.size == 0 && nat_lt (place / buckets.size) buckets.count && is_free l (current l) (place / buckets.size)
+    let buckets = layout_at l (current l) in
+    place % buckets.size == 0 && nat_lt (place / buckets.size) buckets.count && is_free l (current l)
+    (place / buckets.size)
 
 -- the loan is in any free bucket of the current segment
 abbrev pub IsLoan : Ledger → ℕ → Reply → Type 0
@@ -142,44 +148,46 @@ IsLoan l name (Loaned slot) =
 IsLoan l name reply = ⊥
 
 -- bytes of a chunk, from a place on
-abbrev pub shown_bytes : Option Chunk → ℕ → ℕ → List ℕ
-shown_bytes None at length = []
-shown_bytes (Some chunk) at length = take length (drop at chunk.bytes)
+abbrev pub bytes_of_chunk : Option Chunk → ℕ → ℕ → List ℕ
+bytes_of_chunk None at length = []
+bytes_of_chunk (Some chunk) at length = take length (drop at chunk.bytes)
 
 abbrev pub count_of : Ledger → Count
 count_of l = record {
   active = length (active_segments l);
   mapped = length (mapped_segments l);
   current = current l;
-  size = (buckets_at l (current l)).size;
-  buckets = (buckets_at l (current l)).count;
+  size = (layout_at l (current l)).size;
+  buckets = (layout_at l (current l)).count;
 }
 
 abbrev pub Owes : Ledger → ℕ → Command → Reply → Type 0
-Owes l place (command.Loan size alignment) reply = IsLoan (grown l size alignment) place reply
+Owes l place (command.Loan size alignment) reply = IsLoan (grown_ledger l size alignment) place reply
 Owes l place (command.Write name at bytes) reply = reply ≡ Written
-Owes l place (command.Send channel name) reply = reply ≡ Sent (slot_named l (overflowed l (channel_at l channel)))
-Owes l place (command.Receive channel) reply = reply ≡ Received (slot_named l (front (queued (channel_at l channel))))
-Owes l place (command.Read channel name at length) reply = reply ≡ Shown (shown_bytes (chunk_named l name) at length)
+Owes l place (command.Send channel name) reply = reply ≡ Sent (slot_named l (name_sent_back l (history_on l channel)))
+Owes l place (command.Receive channel) reply =
+    reply ≡ Received (slot_named l (front (queued_names (history_on l channel))))
+Owes l place (command.Read channel name at length) reply = reply ≡ Shown (bytes_of_chunk (chunk_named l name) at length)
 Owes l place (command.Release channel name) reply = reply ≡ Released
-Owes l place (command.Reclaim channel) reply = reply ≡ Reclaimed (slot_named l (front (completed (channel_at l channel))))
+Owes l place (command.Reclaim channel) reply =
+    reply ≡ Reclaimed (slot_named l (front (completed_names (history_on l channel))))
 Owes l place (command.Discard name) reply = reply ≡ Discarded
 Owes l place command.Count reply = reply ≡ Counted (count_of l)
 
 -- ---- steps
 
-abbrev pub AnswersBy : Option Refusal → Ledger → ℕ → Command → Reply → Type 0
-AnswersBy None l place asked reply = Owes l place asked reply
-AnswersBy (Some refusal) l place asked reply = reply ≡ Refused refusal
+abbrev pub IsStepBy : Option Refusal → Ledger → ℕ → Command → Reply → Type 0
+IsStepBy None l place asked reply = Owes l place asked reply
+IsStepBy (Some refusal) l place asked reply = reply ≡ Refused refusal
 
-abbrev pub after_by : Option Refusal → Ledger → ℕ → Command → Reply → Ledger
-after_by None l place asked reply = changed l place asked reply
-after_by (Some refusal) l place asked reply = l
+abbrev pub after_step_by : Option Refusal → Ledger → ℕ → Command → Reply → Ledger
+after_step_by None l place asked reply = after_command l place asked reply
+after_step_by (Some refusal) l place asked reply = l
 
 -- the reply answers the command at its place in the list: it is the refusal of its first cause, or what it owes
-abbrev pub Answers : Ledger → ℕ → Command → Reply → Type 0
-Answers l place asked reply = AnswersBy (cause l asked) l place asked reply
+abbrev pub IsStep : Ledger → ℕ → Command → Reply → Type 0
+IsStep l place asked reply = IsStepBy (cause l asked) l place asked reply
 
 -- the ledger after the answer: a refused command changes nothing
-abbrev pub after : Ledger → ℕ → Command → Reply → Ledger
-after l place asked reply = after_by (cause l asked) l place asked reply
+abbrev pub after_step : Ledger → ℕ → Command → Reply → Ledger
+after_step l place asked reply = after_step_by (cause l asked) l place asked reply

@@ -1,8 +1,9 @@
 //! Worked examples of the ledger, as theorems over its definitions alone: each function's contract is a closed run
-//! or cause of `specs/Examples.antt`, which the check computes. The bodies are empty.
+//! or cause of `specs/Examples.antt` or `specs/OrderExamples.antt`, which the check computes. The bodies are empty.
 #![tactic(auto, unfolding(crate::specs::Examples::count_ones))]
 
 ghost use Rattle.cal_transport.specs.Examples.{OneChunk, RefusedLoans, GrowsByPowers, BestFitGrows, PowerOfTwoGrows, OverflowTakesTheOldest, FullChannelRefuses, CompletionQueueHoldsThree, FullCompletionQueueRefuses, TwoChannelsHoldAChunk, ManySegments, SegmentsRetire, OverflowFreesABucket, RefusalsOnTheWay, WritesStayInside, RefusedGrowth, LastSegmentRefuses, GivenBackOnce, CreateCauses};
+ghost use Rattle.cal_transport.specs.OrderExamples.{BorrowedAgain, TransitByPlace, FirstCauses, UnborrowedOnAFullQueue, OutsideSamples, ZerosCountAsOnes, ZeroSettings, BothOutOfRange, FourAfterThree, GrowsToAnAlignment, MappedStays};
 
 pub fn one_chunk()
     ensures computed { OneChunk }
@@ -78,4 +79,48 @@ pub fn given_back_once()
 
 pub fn create_causes()
     ensures computed { CreateCauses }
+{}
+
+pub fn borrowed_again()
+    ensures computed { BorrowedAgain }
+{}
+
+pub fn transit_by_place()
+    ensures computed { TransitByPlace }
+{}
+
+pub fn first_causes()
+    ensures computed { FirstCauses }
+{}
+
+pub fn unborrowed_on_a_full_queue()
+    ensures computed { UnborrowedOnAFullQueue }
+{}
+
+pub fn outside_samples()
+    ensures computed { OutsideSamples }
+{}
+
+pub fn zeros_count_as_ones()
+    ensures computed { ZerosCountAsOnes }
+{}
+
+pub fn zero_settings()
+    ensures computed { ZeroSettings }
+{}
+
+pub fn both_out_of_range()
+    ensures computed { BothOutOfRange }
+{}
+
+pub fn four_after_three()
+    ensures computed { FourAfterThree }
+{}
+
+pub fn grows_to_an_alignment()
+    ensures computed { GrowsToAnAlignment }
+{}
+
+pub fn mapped_stays()
+    ensures computed { MappedStays }
 {}

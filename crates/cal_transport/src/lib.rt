@@ -2,14 +2,16 @@
 #![tactic(auto)]
 
 mod bytes;
+mod chunk_record;
 mod command;
-mod entry;
 pub mod examples;
 mod memory;
 mod replies;
 mod reply;
 mod run;
 mod settings;
+#[cfg(test)]
+mod tests;
 mod transport;
 
 pub use bytes::Bytes;

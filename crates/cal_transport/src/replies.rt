@@ -2,28 +2,28 @@
 
 ghost use Rattle.std.specs.Prelude.{◌≡◌, ◌≤◌, ◌<◌, ◌-◌, ◌++◌, ◌∷◌, [], length, IfOk, slice_get, option_copied};
 
-use crate::reply::Reply;
 use std::alloc::{AllocError, Global};
 use std::marker::Model;
 
-/// The replies to a list of commands, in order.
+/// The replies to a list of commands, in order. `R` is what one command is answered with.
 #[derive(Debug, Drop)]
-pub struct Replies {
-    items: Vec<Reply>,
+pub struct Replies<R> {
+    /// The replies so far. Their room may be taken before they come.
+    items: Vec<R>,
 }
 
-impl Model for Replies {
+impl<R> Model for Replies<R> {
     ghost use Rattle.std.specs.Prelude.{◌-◌, length, vec_len, vec_capacity};
     ghost use Rattle.cal_transport.specs.Replies.{ReplyList};
 
-    ghost Value = { ReplyList };
+    ghost Value = { ReplyList R };
 
     ghost view = { λ r. record { items = r.items.items; spare = vec_capacity r.items - vec_len r.items } };
 }
 
-impl Replies {
+impl<R> Replies<R> {
     /// No reply, with room for this many.
-    pub fn new(alloc: Global, room: usize) -> Result<Replies, AllocError>
+    pub fn new(alloc: Global, room: usize) -> Result<Replies<R>, AllocError>
         ensures empty { IfOk result (λ replies. replies.items ≡ []) }
         ensures room { IfOk result (λ replies. room ≤ replies.spare) }
     {
@@ -33,7 +33,7 @@ impl Replies {
     }
 
     /// No reply, and no room. It takes no memory.
-    pub fn empty(alloc: Global) -> Replies
+    pub fn empty(alloc: Global) -> Replies<R>
         ensures empty { result.items ≡ [] }
     {
         Replies {
@@ -49,7 +49,7 @@ impl Replies {
     }
 
     /// The reply at a place, counted from zero, if there are so many.
-    pub fn get(&self, place: usize) -> Option<&Reply>
+    pub fn get(&self, place: usize) -> Option<&R>
         ensures reply { option_copied result ≡ slice_get self.now.items place }
     {
         self.items.get(place)
@@ -63,7 +63,7 @@ impl Replies {
     }
 
     /// Puts a reply at the end. It takes no memory.
-    pub(crate) fn push(&mut self, reply: Reply)
+    pub(crate) fn push(&mut self, reply: R)
         requires room { 0 < self.old.spare }
         ensures items { self.new.items ≡ self.old.items ++ reply ∷ [] }
         ensures room { self.new.spare ≡ self.old.spare - 1 }

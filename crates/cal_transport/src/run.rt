@@ -3,30 +3,34 @@
 ghost use Rattle.std.specs.Prelude.{◌≡◌, ◌≢◌, ◌+◌, ◌<◌, ◌≤◌, OnOk, IfOk, IfErr, None, Some, Err, IsTrue};
 ghost use Rattle.cal_transport.specs.Settings.{create_cause};
 ghost use Rattle.cal_transport.specs.Built.{is_built};
-ghost use Rattle.cal_transport.specs.Entry.{AreBelow};
+ghost use Rattle.cal_transport.specs.ChunkRecord.{AreBelow};
 ghost use Rattle.cal_transport.specs.Rules.{DoesAnywhere};
-ghost use Rattle.cal_transport.specs.Serve.{NotServed};
+ghost use Rattle.cal_transport.specs.Serve.{NotServed, reply_to};
 ghost use Rattle.cal_transport.specs.Parts.{Does};
 ghost use Rattle.cal_transport.specs.Run.{IsRun, HasError, HasNoCount};
 
 use crate::bytes::Bytes;
 use crate::command::Command;
 use crate::replies::Replies;
-use crate::reply::Reply;
+use crate::reply::{Refusal, Reply};
 use crate::settings::{CreateCause, Settings};
 use crate::transport::Transport;
 use cal_alloc::AllocationStrategy;
 use std::alloc::Global;
+use thiserror::Error;
 
 /// Why there is no whole run.
-#[derive(Debug, Drop)]
+#[derive(Debug, Drop, Error)]
 pub enum RunError {
     /// No transport can be made with the settings. No memory was taken.
+    #[error("RunError::Create")]
     Create(CreateCause),
     /// Memory ran out. The replies answer the commands before.
-    NoMemory(Replies),
+    #[error("RunError::NoMemory")]
+    NoMemory(Replies<Reply>),
     /// The settings, or the next command, aren't served yet. The replies answer the commands before.
-    NotBuilt(Replies),
+    #[error("RunError::NotBuilt")]
+    NotBuilt(Replies<Reply>),
 }
 
 /// Why a command has no reply. The transport is as before.
@@ -44,12 +48,13 @@ pub fn run_transport(
     alloc: Global,
     settings: &Settings,
     commands: &[Command],
-) -> Result<Replies, RunError>
+) -> Result<Replies<Reply>, RunError>
     ensures run { IfOk result (λ replies. IsRun settings.now commands.now replies.items) }
     ensures made { OnOk result (create_cause settings.now ≡ None) }
     ensures built { OnOk result (IsTrue (is_built settings.now)) }
     ensures served { OnOk result (HasNoCount commands.now) }
-    ensures create { (cause : CreateCause) → create_cause settings.now ≡ Some cause → result ≡ Err (RunError.Create cause) }
+    ensures create { (cause : CreateCause) → create_cause settings.now ≡ Some cause →
+        result ≡ Err (RunError.Create cause) }
     ensures error { IfErr result (HasError settings.now commands.now) }
 {
     if let Some(cause) = settings.create_cause() {
@@ -86,7 +91,7 @@ fn is_built(settings: &Settings) -> bool
 impl Transport {
     /// Answers one command. A chunk that it loans is named by the command's place, which is greater than all names.
     fn serve(&mut self, alloc: Global, place: usize, command: &Command) -> Result<Reply, ServeError>
-        requires below { AreBelow self.old.entries place }
+        requires below { AreBelow self.old.records place }
         requires room { 0 < self.old.room }
         ensures served { IfOk result (λ reply. Does self.old place command.now reply self.new) }
         ensures error { IfErr result (NotServed self.old command.now) }
@@ -94,42 +99,34 @@ impl Transport {
         ensures room { self.old.room ≤ self.new.room + 1 }
     {
         match command {
-            Command::Loan { size, alignment } => Ok(match self.loan(place, *size, *alignment) {
-                Ok(slot) => Reply::Loaned(slot),
-                Err(refusal) => Reply::Refused(refusal),
-            }),
-            Command::Write { chunk, at, bytes } => {
-                Ok(match self.write(*chunk, *at, bytes.as_slice()) {
-                    Ok(()) => Reply::Written,
-                    Err(refusal) => Reply::Refused(refusal),
-                })
+            Command::Loan { size, alignment } => Ok(reply_to(
+                self.loan(place, *size, *alignment).map(Reply::Loaned),
+            )),
+            Command::Write { chunk, at, bytes } => Ok(reply_to(
+                self.write(*chunk, *at, bytes.as_slice())
+                    .map(|()| Reply::Written),
+            )),
+            Command::Send { channel, chunk } => {
+                Ok(reply_to(self.send(*channel, *chunk).map(Reply::Sent)))
             }
-            Command::Send { channel, chunk } => Ok(match self.send(*channel, *chunk) {
-                Ok(back) => Reply::Sent(back),
-                Err(refusal) => Reply::Refused(refusal),
-            }),
-            Command::Receive { channel } => Ok(match self.receive(*channel) {
-                Ok(taken) => Reply::Received(taken),
-                Err(refusal) => Reply::Refused(refusal),
-            }),
+            Command::Receive { channel } => {
+                Ok(reply_to(self.receive(*channel).map(Reply::Received)))
+            }
             Command::Read {
                 channel,
                 chunk,
                 at,
                 length,
             } => self.show(alloc, *channel, *chunk, *at, *length),
-            Command::Release { channel, chunk } => Ok(match self.release(*channel, *chunk) {
-                Ok(()) => Reply::Released,
-                Err(refusal) => Reply::Refused(refusal),
-            }),
-            Command::Reclaim { channel } => Ok(match self.reclaim(*channel) {
-                Ok(back) => Reply::Reclaimed(back),
-                Err(refusal) => Reply::Refused(refusal),
-            }),
-            Command::Discard { chunk } => Ok(match self.discard(*chunk) {
-                Ok(()) => Reply::Discarded,
-                Err(refusal) => Reply::Refused(refusal),
-            }),
+            Command::Release { channel, chunk } => Ok(reply_to(
+                self.release(*channel, *chunk).map(|()| Reply::Released),
+            )),
+            Command::Reclaim { channel } => {
+                Ok(reply_to(self.reclaim(*channel).map(Reply::Reclaimed)))
+            }
+            Command::Discard { chunk } => {
+                Ok(reply_to(self.discard(*chunk).map(|()| Reply::Discarded)))
+            }
             Command::Count => Err(ServeError::NotBuilt),
         }
     }
@@ -143,7 +140,8 @@ impl Transport {
         at: usize,
         length: usize,
     ) -> Result<Reply, ServeError>
-        ensures shown { IfOk result (λ reply. DoesAnywhere self.now (Command.Read channel chunk at length) reply self.now) }
+        ensures shown { IfOk result (λ reply.
+            DoesAnywhere self.now (Command.Read channel chunk at length) reply self.now) }
         ensures error { IfErr result (NotServed self.now (Command.Read channel chunk at length)) }
     {
         match self.read(channel, chunk, at, length) {
@@ -155,4 +153,11 @@ impl Transport {
             },
         }
     }
+}
+
+/// The reply to a command: what it was answered with, or its refusal.
+fn reply_to(answer: Result<Reply, Refusal>) -> Reply
+    ensures value { result ≡ reply_to answer }
+{
+    answer.unwrap_or_else(Reply::Refused)
 }

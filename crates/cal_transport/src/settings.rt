@@ -1,11 +1,12 @@
 //! What a transport is made with, and why it may not be made.
 
 ghost use Rattle.std.specs.Prelude.{◌≡◌, ◌<◌, ◌^◌, ◌||◌, ◌==◌};
-ghost use Rattle.cal_transport.specs.Settings.{clamped, create_cause, first_buckets, payload, completion_size, CanMake, is_too_large, has_too_large_connection};
+ghost use Rattle.cal_transport.specs.Settings.{clamped_settings, create_cause, first_layout, payload, completion_size, CanMake, is_too_large, has_too_large_connection};
 
 use cal_alloc::AllocationStrategy;
 
-/// The settings of a transport. A zero buffer, borrow limit, number of samples, of segments or of channels counts as one.
+/// The settings of a transport. A zero buffer, borrow limit, number of samples, of segments or of channels counts as
+/// one.
 #[derive(Clone, Copy, Debug, PartialEq, Eq)]
 pub struct Settings {
     /// The size in bytes of the largest chunk that is expected.
@@ -46,7 +47,7 @@ pub enum CreateCause {
 impl Settings {
     /// The settings with each zero that counts as one put right.
     pub(crate) fn clamped(&self) -> Settings
-        ensures value { result ≡ clamped self.now }
+        ensures value { result ≡ clamped_settings self.now }
     {
         Settings {
             size: self.size,
@@ -82,7 +83,7 @@ impl Settings {
     /// The bytes of the first segment.
     pub(crate) fn payload(&self) -> usize
         requires made { CanMake self.now }
-        ensures value { result ≡ payload (first_buckets self.now) }
+        ensures value { result ≡ payload (first_layout self.now) }
     {
         self.bucket_size() as usize * self.count
     }
@@ -97,7 +98,8 @@ impl Settings {
 
     fn is_too_large(&self) -> bool
         requires aligned { 0 < self.now.alignment }
-        ensures value { result ≡ is_too_large (first_buckets self.now) || has_too_large_connection (clamped self.now) }
+        ensures value { result ≡
+            is_too_large (first_layout self.now) || has_too_large_connection (clamped_settings self.now) }
     {
         if self.has_too_large_segment() {
             return true;
@@ -107,7 +109,7 @@ impl Settings {
 
     fn has_too_large_segment(&self) -> bool
         requires aligned { 0 < self.now.alignment }
-        ensures value { result ≡ is_too_large (first_buckets self.now) }
+        ensures value { result ≡ is_too_large (first_layout self.now) }
     {
         if self.count >= 1 << 32 {
             return true;
@@ -118,7 +120,7 @@ impl Settings {
     /// Whether the first segment has no byte.
     fn is_empty(&self) -> bool
         requires aligned { 0 < self.now.alignment }
-        ensures value { result ≡ (payload (first_buckets self.now) == 0) }
+        ensures value { result ≡ (payload (first_layout self.now) == 0) }
     {
         if self.count == 0 {
             return true;
@@ -129,7 +131,7 @@ impl Settings {
     /// The size in bytes of the first segment's buckets.
     fn bucket_size(&self) -> u128
         requires aligned { 0 < self.now.alignment }
-        ensures value { result ≡ (first_buckets self.now).size }
+        ensures value { result ≡ (first_layout self.now).size }
         ensures bound { result < 2 ^ 65 }
     {
         let alignment = self.alignment as u128;

@@ -2,16 +2,16 @@
 //! step of the ledger that the transport stands for, whichever free bucket a loan took.
 
 ghost use Rattle.std.specs.Prelude.{◌≡◌, ◌≤◌, [], IfOk, None, IsTrue};
-ghost use Rattle.cal_transport.specs.Settings.{CanMake, create_cause, first_buckets, payload};
+ghost use Rattle.cal_transport.specs.Settings.{CanMake, create_cause, first_layout, payload};
 ghost use Rattle.cal_transport.specs.Ledger.{first_ledger};
-ghost use Rattle.cal_transport.specs.Parts.{StandsFor, first_pool};
+ghost use Rattle.cal_transport.specs.Parts.{Represents, first_pool};
 ghost use Rattle.cal_transport.specs.Built.{is_built};
 
 mod receiver;
 mod sender;
 mod transit;
 
-use crate::entry::Entry;
+use crate::chunk_record::ChunkRecord;
 use crate::settings::Settings;
 use cal_alloc::pool_allocator::Config;
 use cal_alloc::{Layout, PoolAllocator, ShmAllocator};
@@ -35,9 +35,9 @@ pub(crate) struct Transport {
     used: UsedChunkList,
     // How many chunks the receiver has borrowed.
     borrowed: usize,
-    entries: Vec<Entry>,
+    records: Vec<ChunkRecord>,
     // For each used bucket, the index of its chunk's entry.
-    owners: Vec<usize>,
+    record_indices: Vec<usize>,
 }
 
 impl Model for Transport {
@@ -64,9 +64,9 @@ impl Transport {
     ) -> Result<Transport, AllocError>
         requires made { create_cause settings.now ≡ None }
         requires built { IsTrue (is_built settings.now) }
-        ensures first { IfOk result (λ transport. StandsFor transport (first_ledger settings.now)) }
+        ensures first { IfOk result (λ transport. Represents transport (first_ledger settings.now)) }
         ensures room { IfOk result (λ transport. loans ≤ transport.room) }
-        ensures unnamed { IfOk result (λ transport. transport.entries ≡ []) }
+        ensures unnamed { IfOk result (λ transport. transport.records ≡ []) }
     {
         let settings = settings.clamped();
         let payload = settings.payload();
@@ -75,8 +75,8 @@ impl Transport {
         let submissions = SafelyOverflowingIndexQueue::new(alloc, settings.buffer)?;
         let completions = IndexQueue::new(alloc, settings.completion_size())?;
         let used = UsedChunkList::new(alloc, settings.samples)?;
-        let entries = Vec::with_capacity(alloc, loans)?;
-        let owners = vec![in alloc; 0; settings.count]?;
+        let records = Vec::with_capacity(alloc, loans)?;
+        let record_indices = vec![in alloc; 0; settings.count]?;
         Ok(Transport {
             settings,
             pool,
@@ -85,8 +85,8 @@ impl Transport {
             completions,
             used,
             borrowed: 0,
-            entries,
-            owners,
+            records,
+            record_indices,
         })
     }
 }
@@ -98,7 +98,7 @@ fn ready_pool(
     memory_size: usize,
 ) -> Result<PoolAllocator, AllocError>
     requires made { CanMake settings.now }
-    requires payload { memory_size ≡ payload (first_buckets settings.now) }
+    requires payload { memory_size ≡ payload (first_layout settings.now) }
     ensures pool { IfOk result (λ pool. pool ≡ first_pool settings.now) }
 {
     let bucket_layout = Layout::new(settings.size, settings.alignment).unwrap();

@@ -4,44 +4,44 @@ ghost use Rattle.cal_queue.specs.CompletionSteps as steps;
 use super::rule::RingView;
 use atomic_table::Play;
 
-pub(super) struct LoadRead;
+pub(super) struct WriterLoadsRead;
 
-impl Play<(), RingView> for LoadRead {
-    ghost then = { steps.LoadsRead };
+impl Play<(), RingView> for WriterLoadsRead {
+    ghost then = { steps.WriterLoadsRead };
 }
 
-pub(super) struct StoreSlot;
+pub(super) struct WriterStoresSlot;
 
-impl Play<(), RingView> for StoreSlot {
-    ghost then = { steps.StoresSlot };
+impl Play<(), RingView> for WriterStoresSlot {
+    ghost then = { steps.WriterStoresSlot };
 }
 
-pub(super) struct StoreWrite;
+pub(super) struct WriterStoresWrite;
 
-impl Play<(), RingView> for StoreWrite {
-    ghost then = { steps.StoresWrite };
+impl Play<(), RingView> for WriterStoresWrite {
+    ghost then = { steps.WriterStoresWrite };
 }
 
-pub(super) struct LoadWrite;
+pub(super) struct ReaderLoadsWrite;
 
-impl Play<(), RingView> for LoadWrite {
-    ghost then = { steps.LoadsWrite };
+impl Play<(), RingView> for ReaderLoadsWrite {
+    ghost then = { steps.ReaderLoadsWrite };
 }
 
-pub(super) struct LoadSlot;
+pub(super) struct ReaderLoadsSlot;
 
-impl Play<(), RingView> for LoadSlot {
-    ghost then = { steps.LoadsSlot };
+impl Play<(), RingView> for ReaderLoadsSlot {
+    ghost then = { steps.ReaderLoadsSlot };
 }
 
-pub(super) struct StoreRead;
+pub(super) struct ReaderStoresRead;
 
-impl Play<(), RingView> for StoreRead {
-    ghost then = { steps.StoresRead };
+impl Play<(), RingView> for ReaderStoresRead {
+    ghost then = { steps.ReaderStoresRead };
 }
 
-pub(super) struct Settle;
+pub(super) struct Settles;
 
-impl Play<(), RingView> for Settle {
+impl Play<(), RingView> for Settles {
     ghost then = { steps.Settles };
 }

@@ -1,11 +1,12 @@
 //! The putting end's steps on the table.
 ghost use Rattle.std.specs.Prelude.{◌≡◌, ◌+◌, ◌-◌, ◌^◌, ◌<◌, ◌≤◌, true, None, length};
-ghost use Rattle.cal_queue.specs.CompletionPass.{loaded_read, stored_slot, stored_write};
-ghost use Rattle.cal_queue.specs.CompletionRule.{slot_of};
+ghost use Rattle.cal_queue.specs.CompletionPass.{after_read_load, after_slot_store, after_write_store};
+ghost use Rattle.cal_queue.specs.RingWords.{slot_of};
 ghost use Rattle.cal_queue.specs.Sides.{with_writer};
 
-use super::plays::{LoadRead, StoreSlot, StoreWrite};
-use super::rule::{READ_POSITION, RingSeat, RingTable, WRITE_POSITION};
+use super::plays::{WriterLoadsRead, WriterStoresSlot, WriterStoresWrite};
+use super::rule::{RingSeat, RingTable};
+use crate::ring_words::{READ_POSITION, WRITE_POSITION};
 
 pub(super) fn load_read(table: &RingTable, seat: &mut RingSeat) -> u64
     requires seated { seat.old.table_id ≡ table.now.shared.table_id }
@@ -13,14 +14,14 @@ pub(super) fn load_read(table: &RingTable, seat: &mut RingSeat) -> u64
     requires puts { seat.old.me.0.writes ≡ true }
     requires idle { seat.old.me.0.writer.to_put ≡ None }
     ensures seated { seat.new.table_id ≡ seat.old.table_id }
-    ensures loaded { seat.new.me ≡ with_writer seat.old.me (loaded_read result seat.old.me.0.writer) }
+    ensures loaded { seat.new.me ≡ with_writer seat.old.me (after_read_load result seat.old.me.0.writer) }
     ensures within { result ≤ length seat.old.me.0.writer.put }
     ensures room { length seat.old.me.0.writer.put ≤ result + seat.old.me.0.writer.capacity }
 {
-    table.shared.load::<LoadRead>(seat, READ_POSITION)
+    table.shared.load::<WriterLoadsRead>(seat, READ_POSITION)
 }
 
-// Stores the value into its slot, and only then the write position behind it.
+// Stores the value into its slot, and only then the write position after it.
 pub(super) fn append(table: &RingTable, seat: &mut RingSeat, slot: usize, written: u64, value: u64)
     requires seated { seat.old.table_id ≡ table.now.shared.table_id }
     requires sized { table.now.shared.table_id.words ≡ table.now.shared.key + 2 }
@@ -32,9 +33,10 @@ pub(super) fn append(table: &RingTable, seat: &mut RingSeat, slot: usize, writte
     requires room { written < seat.old.me.0.writer.seen_read + table.now.shared.key }
     requires counts { written < 2 ^ 64 - 1 }
     ensures seated { seat.new.table_id ≡ seat.old.table_id }
-    ensures appended { seat.new.me ≡ with_writer seat.old.me (stored_write (stored_slot value seat.old.me.0.writer)) }
+    ensures appended { seat.new.me
+        ≡ with_writer seat.old.me (after_write_store (after_slot_store value seat.old.me.0.writer)) }
 {
     let words = &table.shared;
-    words.store::<StoreSlot>(seat, slot, value);
-    words.store::<StoreWrite>(seat, WRITE_POSITION, written + 1);
+    words.store::<WriterStoresSlot>(seat, slot, value);
+    words.store::<WriterStoresWrite>(seat, WRITE_POSITION, written + 1);
 }

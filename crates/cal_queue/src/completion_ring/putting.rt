@@ -1,28 +1,21 @@
 //! The call of the putting end: one load and two stores, which take no memory and wait for nobody.
-ghost use Rattle.std.specs.Prelude.{◌≡◌, ◌+◌, ◌-◌, ◌^◌, ◌<◌, ◌≤◌, ◌↔◌, length, OnErr, OnOk, Err};
-ghost use Rattle.cal_queue.specs.CompletionRule.{slot_of};
+ghost use Rattle.std.specs.Prelude.{◌≡◌, ◌+◌, ◌-◌, ◌^◌, ◌<◌, ◌≤◌, ◌↔◌, [], ◌∷◌, ◌++◌, length, OnErr, OnOk, Err};
 
 use super::put_seat::PutSeat;
 use super::put_steps::{append, load_read};
 use crate::positions::is_used_up;
 use crate::push_refusal::PushRefusal;
-
-// The word of a position's slot.
-pub(super) fn slot_of(capacity: u64, position: u64) -> usize
-    requires { (1 ≤ capacity) × (capacity < 2 ^ 32) }
-    ensures { result ≡ slot_of capacity position }
-{
-    (position % capacity) as usize + 2
-}
+use crate::ring_words::{FIRST_SLOT, next_index};
 
 impl PutSeat {
-    ghost use Rattle.cal_queue.specs.CompletionPass.{loaded_read, stored_slot, stored_write};
-    ghost use Rattle.cal_queue.specs.CompletionCalls.{Puts, SamePutEnd, SeesFull, put_pass};
-    ghost use Rattle.cal_queue.specs.declared.push_refusal.PushRefusal.TheVariants.{Full, PositionsUsedUp};
+    ghost use Rattle.cal_queue.specs.CompletionPass.{after_read_load, after_slot_store, after_write_store};
+    ghost use Rattle.cal_queue.specs.CompletionCalls.{IsPush, SamePutEnd, put_pass};
+    ghost use Rattle.cal_queue.specs.declared.push_refusal.PushRefusal.TheVariants.{PositionsUsedUp};
 
+    // Loads the read position.
     fn look(&mut self) -> u64
         ensures same_end { SamePutEnd self.old self.new }
-        ensures one_load { put_pass self.new ≡ loaded_read result (put_pass self.old) }
+        ensures one_load { put_pass self.new ≡ after_read_load result (put_pass self.old) }
         ensures within { result ≤ length (put_pass self.old).put }
         ensures room { length (put_pass self.old).put ≤ result + (put_pass self.old).capacity }
     {
@@ -34,21 +27,22 @@ impl PutSeat {
         requires room { length (put_pass self.old).put < (put_pass self.old).seen_read + (put_pass self.old).capacity }
         requires counts { length (put_pass self.old).put < 2 ^ 64 - 1 }
         ensures same_end { SamePutEnd self.old self.new }
-        ensures put { put_pass self.new ≡ stored_write (stored_slot value (put_pass self.old)) }
+        ensures put { put_pass self.new ≡ after_write_store (after_slot_store value (put_pass self.old)) }
     {
-        let slot = slot_of(self.capacity, self.written);
+        let slot = FIRST_SLOT + self.index;
         append(&self.table, &mut self.seat, slot, self.written, value);
+        self.index = next_index(self.index, self.capacity);
         self.written += 1;
     }
 
-    /// Puts a value behind all others. After a refusal the ring is as before.
+    /// Puts a value after all others. A ring that a look showed full is `Full`. Once 2^64 - 1 values were put the
+    /// refusal is `PositionsUsedUp`, without a look. Either refusal leaves the ring as it was.
     pub fn push(&mut self, value: u64) -> Result<(), PushRefusal>
         ensures same_end { SamePutEnd self.old self.new }
-        ensures put { OnOk result (Puts value (put_pass self.old) (put_pass self.new)) }
+        ensures is_push { IsPush value result (put_pass self.old) (put_pass self.new) }
+        ensures appended { OnOk result ((put_pass self.new).put ≡ (put_pass self.old).put ++ value ∷ []) }
         ensures refused { OnErr result ((put_pass self.new).put ≡ (put_pass self.old).put) }
-        ensures full { result ≡ Err Full → SeesFull (put_pass self.old) (put_pass self.new) }
         ensures used_up { (result ≡ Err PositionsUsedUp) ↔ (length (put_pass self.old).put ≡ 2 ^ 64 - 1) }
-        ensures untouched { result ≡ Err PositionsUsedUp → put_pass self.new ≡ put_pass self.old }
     {
         if is_used_up(self.written) {
             return Err(PushRefusal::PositionsUsedUp);

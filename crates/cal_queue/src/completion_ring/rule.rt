@@ -5,10 +5,6 @@ use crate::sided::Sided;
 use atomic_table::{Join, Seat, Table, TableRule};
 use std::alloc::Global;
 
-pub(super) const READ_POSITION: usize = 0;
-
-pub(super) const WRITE_POSITION: usize = 1;
-
 pub(crate) type RingView = Sided<PutPass, GetPass>;
 
 pub(crate) type RingSeat = Seat<(), RingView>;
@@ -19,9 +15,9 @@ pub(crate) type RingTable = Table<(), RingView, u64, CompletionRule, Global>;
 pub(crate) struct CompletionRule;
 
 impl TableRule<(), RingView, u64> for CompletionRule {
-    ghost use Rattle.cal_queue.specs.CompletionRule.{HoldsOfRing, new_view};
+    ghost use Rattle.cal_queue.specs.CompletionRule.{IsSoundTable, new_view};
 
-    ghost holds = { HoldsOfRing };
+    ghost holds = { IsSoundTable };
 
     ghost first = { new_view };
 }
@@ -30,10 +26,10 @@ impl TableRule<(), RingView, u64> for CompletionRule {
 pub(crate) struct Meeting;
 
 impl Join<RingView> for Meeting {
-    ghost use Rattle.cal_queue.specs.Sides.{joined};
+    ghost use Rattle.cal_queue.specs.Sides.{joined_sides};
     ghost use Rattle.cal_queue.specs.CompletionRule.{spent_view};
 
-    ghost both = { joined };
+    ghost both = { joined_sides };
 
     ghost spent = { spent_view };
 }

@@ -1,9 +1,8 @@
 //! The law of a state table, which its contract alone says.
 ghost use Rattle.cal_queue.specs.StateLaw.{EveryOpening, EveryRun, EveryStep};
 
-/// Whatever the seats of a state table do, and in whatever order, each of their steps keeps the
-/// table's rule, and the port word stays one that a port may have.
-#[tactic(auto, using(crate::proofs::StateSteps::every_opening, crate::proofs::StateSteps::every_step, crate::proofs::StateSteps::every_run))]
+/// Whatever the seats of a state table do, and in whatever order, each of their steps keeps the table's rule, and the
+/// port word stays one that a port may have.
 pub fn state_table_law()
     ensures opening { EveryOpening }
     ensures step { EveryStep }

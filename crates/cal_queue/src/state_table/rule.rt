@@ -1,6 +1,6 @@
 //! The rule that every step at a state table keeps, and what a step tells its seat.
-ghost use Rattle.cal_queue.specs.StateRule.{Kept, Loads, Exchanges};
-ghost use Rattle.cal_queue.specs.StateTable.{fresh};
+ghost use Rattle.cal_queue.specs.StateRule.{IsSoundTable, Loads, Exchanges};
+ghost use Rattle.cal_queue.specs.StateTable.{new_pass};
 
 use super::{OpeningWords, StatePass};
 use atomic_table::{Play, Split, Table, TableRule};
@@ -11,9 +11,9 @@ pub(super) type StateWords = Table<(), StatePass, OpeningWords, StateRule, Globa
 pub struct StateRule;
 
 impl TableRule<(), StatePass, OpeningWords> for StateRule {
-    ghost holds = { λ opening s. Kept opening s.words s.views };
+    ghost holds = { λ opening s. IsSoundTable opening s.words s.views };
 
-    ghost first = { fresh };
+    ghost first = { new_pass };
 }
 
 // The other side begins with no steps.
@@ -22,7 +22,7 @@ pub(super) struct SecondSeat;
 impl Split<StatePass> for SecondSeat {
     ghost left = { λ p. p };
 
-    ghost right = { λ p. fresh p.opening };
+    ghost right = { λ p. new_pass p.opening };
 }
 
 pub(super) struct Load;

@@ -2,14 +2,17 @@
 ghost use Rattle.std.specs.Prelude.{◌≡◌, ℕ, ◌⊎◌, IfErr, IfNone, IfOk, IfSome, OnOk};
 ghost use Rattle.std.specs.Bool.{MatchBool, OnFalse, OnTrue};
 ghost use Rattle.cal_queue.specs.StateAnswers.{LeftMark, LeftOther, OnlyLooked, Refused, Reserved, WasAbsent};
-ghost use Rattle.cal_queue.specs.StateTable.{IsPortBit, IsPortWord, IsWitnessed, MayChange, has_bit, looked, port_place, took, wrote};
+ghost use Rattle.cal_queue.specs.StateTable.{IsPortBit, IsPortWord, IsWitnessed, MayChange, has_bit, load_step, port_index, after_step, write_step};
 
 use super::{StateSeat, steps};
 use crate::reserve_refusal::ReserveRefusal;
 
+// The index of the port word.
 pub(super) const PORT: usize = 0;
+
 // The port word of a connection with both sides.
 const BOTH: u64 = 3;
+
 // The port word of a connection that is being cleaned up.
 const MARK: u64 = 128;
 
@@ -28,8 +31,9 @@ impl StateSeat {
     fn try_change(&mut self, seen: u64, new: u64) -> bool
         requires { MayChange seen new }
         ensures same_table { ShareTable self.new self.old }
-        ensures won { OnTrue result (pass self.new ≡ took (pass self.old) (wrote port_place seen new)) }
-        ensures lost { OnFalse result ((word : ℕ) × (pass self.new ≡ took (pass self.old) (looked port_place word))) }
+        ensures won { OnTrue result (pass self.new ≡ after_step (pass self.old) (write_step port_index seen new)) }
+        ensures lost { OnFalse result ((word : ℕ)
+            × (pass self.new ≡ after_step (pass self.old) (load_step port_index word))) }
         ensures witnessed { IsWitnessed (pass self.new) }
     {
         let StateSeat { table, seat, .. } = self;
@@ -40,7 +44,8 @@ impl StateSeat {
     pub(super) fn try_reserve(&mut self, bit: u64) -> Result<bool, ReserveRefusal>
         requires { IsPortBit bit }
         ensures same_table { ShareTable self.new self.old }
-        ensures ok { IfOk result (λ won. MatchBool won (Reserved bit (pass self.old) (pass self.new)) (OnlyLooked (pass self.old) (pass self.new))) }
+        ensures ok { IfOk result (λ won. MatchBool won
+            (Reserved bit (pass self.old) (pass self.new)) (OnlyLooked (pass self.old) (pass self.new))) }
         ensures refused { IfErr result (λ refusal. Refused bit refusal (pass self.old) (pass self.new)) }
         ensures witnessed { IsWitnessed (pass self.new) }
     {
@@ -58,7 +63,9 @@ impl StateSeat {
     pub(super) fn try_leave(&mut self, bit: u64) -> Option<bool>
         requires { IsPortBit bit }
         ensures same_table { ShareTable self.new self.old }
-        ensures some { IfSome result (λ marked. MatchBool marked (LeftMark bit (pass self.old) (pass self.new)) (LeftOther bit (pass self.old) (pass self.new) ⊎ WasAbsent bit (pass self.old) (pass self.new))) }
+        ensures some { IfSome result (λ marked. MatchBool marked
+            (LeftMark bit (pass self.old) (pass self.new))
+            (LeftOther bit (pass self.old) (pass self.new) ⊎ WasAbsent bit (pass self.old) (pass self.new))) }
         ensures none { IfNone result (OnlyLooked (pass self.old) (pass self.new)) }
         ensures witnessed { IsWitnessed (pass self.new) }
     {

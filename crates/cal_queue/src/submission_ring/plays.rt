@@ -4,56 +4,56 @@ ghost use Rattle.cal_queue.specs.SubmissionSteps as steps;
 use super::rule::RingView;
 use atomic_table::Play;
 
-pub(super) struct LoadRead;
+pub(super) struct WriterLoadsRead;
 
-impl Play<(), RingView> for LoadRead {
-    ghost then = { steps.LoadsRead };
+impl Play<(), RingView> for WriterLoadsRead {
+    ghost then = { steps.WriterLoadsRead };
 }
 
-pub(super) struct StoreSlot;
+pub(super) struct WriterStoresSlot;
 
-impl Play<(), RingView> for StoreSlot {
-    ghost then = { steps.StoresSlot };
+impl Play<(), RingView> for WriterStoresSlot {
+    ghost then = { steps.WriterStoresSlot };
 }
 
-pub(super) struct StoreWrite;
+pub(super) struct WriterStoresWrite;
 
-impl Play<(), RingView> for StoreWrite {
-    ghost then = { steps.StoresWrite };
+impl Play<(), RingView> for WriterStoresWrite {
+    ghost then = { steps.WriterStoresWrite };
 }
 
-pub(super) struct Displace;
+pub(super) struct WriterExchangesRead;
 
-impl Play<(), RingView> for Displace {
-    ghost then = { steps.Displaces };
+impl Play<(), RingView> for WriterExchangesRead {
+    ghost then = { steps.WriterExchangesRead };
 }
 
-pub(super) struct LookAtRead;
+pub(super) struct ReaderLoadsRead;
 
-impl Play<(), RingView> for LookAtRead {
-    ghost then = { steps.LooksAtRead };
+impl Play<(), RingView> for ReaderLoadsRead {
+    ghost then = { steps.ReaderLoadsRead };
 }
 
-pub(super) struct LookAtWrite;
+pub(super) struct ReaderLoadsWrite;
 
-impl Play<(), RingView> for LookAtWrite {
-    ghost then = { steps.LooksAtWrite };
+impl Play<(), RingView> for ReaderLoadsWrite {
+    ghost then = { steps.ReaderLoadsWrite };
 }
 
-pub(super) struct LookAtSlot;
+pub(super) struct ReaderLoadsSlot;
 
-impl Play<(), RingView> for LookAtSlot {
-    ghost then = { steps.LooksAtSlot };
+impl Play<(), RingView> for ReaderLoadsSlot {
+    ghost then = { steps.ReaderLoadsSlot };
 }
 
-pub(super) struct Take;
+pub(super) struct ReaderExchangesRead;
 
-impl Play<(), RingView> for Take {
-    ghost then = { steps.Takes };
+impl Play<(), RingView> for ReaderExchangesRead {
+    ghost then = { steps.ReaderExchangesRead };
 }
 
-pub(super) struct Settle;
+pub(super) struct Settles;
 
-impl Play<(), RingView> for Settle {
+impl Play<(), RingView> for Settles {
     ghost then = { steps.Settles };
 }

@@ -11,20 +11,13 @@ pub(crate) type RingTable = Table<(), RingView, u64, SubmissionRule, Global>;
 
 pub(crate) type RingSeat = Seat<(), RingView>;
 
-// The words of the table: the two positions, and then the slots.
-pub(super) const READ_POSITION: usize = 0;
-
-pub(super) const WRITE_POSITION: usize = 1;
-
-pub(super) const FIRST_SLOT: usize = 2;
-
 // The key is how many values the ring keeps between two calls.
 pub(crate) struct SubmissionRule;
 
 impl TableRule<(), RingView, u64> for SubmissionRule {
-    ghost use Rattle.cal_queue.specs.SubmissionRule.{HoldsOfRing, new_view};
+    ghost use Rattle.cal_queue.specs.SubmissionRule.{IsSoundTable, new_view};
 
-    ghost holds = { HoldsOfRing };
+    ghost holds = { IsSoundTable };
 
     ghost first = { new_view };
 }
@@ -33,10 +26,10 @@ impl TableRule<(), RingView, u64> for SubmissionRule {
 pub(crate) struct Meeting;
 
 impl Join<RingView> for Meeting {
-    ghost use Rattle.cal_queue.specs.Sides.{joined};
+    ghost use Rattle.cal_queue.specs.Sides.{joined_sides};
     ghost use Rattle.cal_queue.specs.SubmissionRule.{spent_view};
 
-    ghost both = { joined };
+    ghost both = { joined_sides };
 
     ghost spent = { spent_view };
 }

@@ -1,22 +1,22 @@
-//! The calls of the sending end. A push is a load, two stores and at most one exchange; it takes no memory and waits for
-//! nobody.
+//! The calls of the sending end. A push is a load, two stores and at most one exchange; it takes no memory and waits
+//! for nobody.
 ghost use Rattle.std.specs.Prelude.{◌≡◌, ◌+◌, ◌-◌, ◌%◌, ◌^◌, ◌<◌, ◌≤◌, ◌↔◌, ◌⊎◌, [], ◌∷◌, ◌++◌, length, IsTrue, IsFalse, IfSome, IfNone, IfOk, IsOk, OnOk, OnErr, slice_get, Some, None, Ok, Err};
 
-use super::place::next_place;
-use super::rule::FIRST_SLOT;
 use super::send_seat::SendSeat;
-use super::sender_steps::{append, displace, load_read};
+use super::send_steps::{append, exchange_read, load_read};
 use crate::positions::is_used_up;
 use crate::push_refusal::PushRefusal;
+use crate::ring_words::{FIRST_SLOT, next_index};
 
 impl SendSeat {
-    ghost use Rattle.cal_queue.specs.SubmissionPass.{loaded_read, stored_slot, stored_write};
-    ghost use Rattle.cal_queue.specs.SubmissionCalls.{send_pass, SameSendEnd, SameLists, LoadsOnce, SeesFull, SeesRoom, LosesExchange, ComesBack};
-    ghost use Rattle.cal_queue.specs.declared.push_refusal.PushRefusal.TheVariants.{Full, PositionsUsedUp};
+    ghost use Rattle.cal_queue.specs.SubmissionPass.{after_lost_exchange, after_read_load, after_stores, after_won_exchange};
+    ghost use Rattle.cal_queue.specs.SubmissionCalls.{IsPush, LoadsOnce, SameLists, SameSendEnd, send_pass};
+    ghost use Rattle.cal_queue.specs.declared.push_refusal.PushRefusal.TheVariants.{PositionsUsedUp};
 
+    // Loads the read position.
     fn look(&mut self) -> u64
         ensures same_end { SameSendEnd self.old self.new }
-        ensures one_load { send_pass self.new ≡ loaded_read result (send_pass self.old) }
+        ensures one_load { send_pass self.new ≡ after_read_load result (send_pass self.old) }
         ensures within { result ≤ length (send_pass self.old).sent }
         ensures room { length (send_pass self.old).sent ≤ result + (send_pass self.old).buffer }
     {
@@ -25,65 +25,69 @@ impl SendSeat {
 
     // Sends a value where the last look showed room.
     fn send(&mut self, value: u64)
-        requires room { length (send_pass self.old).sent < (send_pass self.old).seen_read + (send_pass self.old).buffer }
+        requires room { length (send_pass self.old).sent
+            < (send_pass self.old).seen_read + (send_pass self.old).buffer }
         requires counts { length (send_pass self.old).sent < 2 ^ 64 - 1 }
         ensures same_end { SameSendEnd self.old self.new }
-        ensures sent { send_pass self.new ≡ stored_write value (stored_slot value (send_pass self.old)) }
+        ensures sent { send_pass self.new ≡ after_stores value (send_pass self.old) }
     {
         append(
             &self.table,
             &mut self.seat,
-            FIRST_SLOT + self.place,
+            FIRST_SLOT + self.index,
             self.written,
             value,
         );
-        self.copy[self.place] = value;
-        self.place = next_place(self.place, self.buffer);
+        self.copy[self.index] = value;
+        self.index = next_index(self.index, self.buffer + 1);
         self.written += 1;
     }
 
     // Sends a value where the last look showed none, and tries to take the oldest one back.
-    fn send_over(&mut self, value: u64) -> Option<u64>
-        requires full { length (send_pass self.old).sent ≡ (send_pass self.old).seen_read + (send_pass self.old).buffer }
+    fn send_with_overflow(&mut self, value: u64) -> Option<u64>
+        requires full { length (send_pass self.old).sent
+            ≡ (send_pass self.old).seen_read + (send_pass self.old).buffer }
         requires counts { length (send_pass self.old).sent < 2 ^ 64 - 1 }
         ensures same_end { SameSendEnd self.old self.new }
         ensures sent { (send_pass self.new).sent ≡ (send_pass self.old).sent ++ value ∷ [] }
-        ensures looked { ((send_pass self.new).seen_read ≡ (send_pass self.old).seen_read) × ((send_pass self.new).loads ≡ (send_pass self.old).loads) }
-        ensures back { IfSome result (λ oldest. ComesBack oldest (send_pass self.old) (send_pass self.new)) }
-        ensures kept { IfNone result ((send_pass self.new).returned ≡ (send_pass self.old).returned) }
-        ensures lost { IfNone result (LosesExchange (send_pass self.old) (send_pass self.new)) }
+        ensures back { IfSome result
+            (λ oldest. send_pass self.new ≡ after_won_exchange (after_stores value (send_pass self.old))) }
+        ensures overflowed { IfSome result (λ oldest.
+            ((send_pass self.new).overflowed
+            ≡ (send_pass self.old).overflowed ++ ((send_pass self.old).seen_read, oldest) ∷ [])
+            × (slice_get (send_pass self.new).sent (send_pass self.old).seen_read ≡ Some oldest)) }
+        ensures lost { IfNone result (send_pass self.new
+            ≡ after_lost_exchange (after_stores value (send_pass self.old))) }
     {
         let read = self.written - self.buffer;
         append(
             &self.table,
             &mut self.seat,
-            FIRST_SLOT + self.place,
+            FIRST_SLOT + self.index,
             self.written,
             value,
         );
-        self.copy[self.place] = value;
-        self.place = next_place(self.place, self.buffer);
+        self.copy[self.index] = value;
+        self.index = next_index(self.index, self.buffer + 1);
         self.written += 1;
-        if !displace(&self.table, &mut self.seat, read) {
+        if !exchange_read(&self.table, &mut self.seat, read) {
             return None;
         }
-        self.returned += 1;
-        Some(self.copy[self.place])
+        self.overflowed += 1;
+        Some(self.copy[self.index])
     }
 
-    /// Sends a value behind all others. With `overflow` a full ring takes it too, and its oldest value comes back, unless
-    /// it is received meanwhile.
+    /// Sends a value after all others. With `overflow` a full ring takes it too, and its oldest value overflows: it
+    /// comes back, unless it is received meanwhile. Without it a ring that a look showed full is `Full`. Once 2^64 - 1
+    /// values were sent the refusal is `PositionsUsedUp`, without a look. Either refusal leaves the ring as it was.
     pub fn push(&mut self, value: u64, overflow: bool) -> Result<Option<u64>, PushRefusal>
         ensures same_end { SameSendEnd self.old self.new }
+        ensures is_push { IsPush overflow value result (send_pass self.old) (send_pass self.new) }
         ensures appended { OnOk result ((send_pass self.new).sent ≡ (send_pass self.old).sent ++ value ∷ []) }
-        ensures returned { IfOk result (λ back. IfSome back (λ oldest. ComesBack oldest (send_pass self.old) (send_pass self.new))) }
-        ensures returned_where_full { IfOk result (λ back. IfSome back (λ oldest. IsTrue overflow × SeesFull (send_pass self.old) (send_pass self.new))) }
-        ensures none_returned { IfOk result (λ back. IfNone back ((send_pass self.new).returned ≡ (send_pass self.old).returned)) }
-        ensures none_returned_where { IfOk result (λ back. IfNone back (SeesRoom (send_pass self.old) (send_pass self.new)
-            ⊎ (IsTrue overflow × SeesFull (send_pass self.old) (send_pass self.new) × LosesExchange (send_pass self.old) (send_pass self.new)))) }
+        ensures none_overflowed { IfOk result
+            (λ back. IfNone back ((send_pass self.new).overflowed ≡ (send_pass self.old).overflowed)) }
         ensures refused { OnErr result (SameLists (send_pass self.old) (send_pass self.new)) }
         ensures taken_with_overflow { IsTrue overflow → length (send_pass self.old).sent < 2 ^ 64 - 1 → IsOk result }
-        ensures full { result ≡ Err Full → IsFalse overflow × SeesFull (send_pass self.old) (send_pass self.new) }
         ensures used_up { (result ≡ Err PositionsUsedUp) ↔ (length (send_pass self.old).sent ≡ 2 ^ 64 - 1) }
     {
         if is_used_up(self.written) {
@@ -97,15 +101,16 @@ impl SendSeat {
         if !overflow {
             return Err(PushRefusal::Full);
         }
-        Ok(self.send_over(value))
+        Ok(self.send_with_overflow(value))
     }
 
-    /// Whether fewer values wait than may, by one look. Only this end adds values, so the answer `true` stays right until
-    /// its next push.
+    /// Whether fewer values wait than may, by one look. Only this end adds values, so the answer `true` stays right
+    /// until its next push.
     pub fn has_room(&mut self) -> bool
         ensures same_end { SameSendEnd self.old self.new }
         ensures one_look { LoadsOnce (send_pass self.old) (send_pass self.new) }
-        ensures full { IsFalse result ↔ (length (send_pass self.old).sent ≡ (send_pass self.new).seen_read + (send_pass self.new).buffer) }
+        ensures full { IsFalse result
+            ↔ (length (send_pass self.old).sent ≡ (send_pass self.new).seen_read + (send_pass self.new).buffer) }
     {
         let read = self.look();
         self.written - read < self.buffer

@@ -26,6 +26,7 @@ pub struct Builder<T, K> {
     pub(crate) config: Configuration<T>,
     /// Whether a new storage owns its name, and the room of its initializer, at most 2^56 bytes.
     pub(crate) options: StorageOptions,
+    /// What is stored, and the kind of storage.
     of: PhantomData<K>,
 }
 

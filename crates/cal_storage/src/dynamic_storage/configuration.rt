@@ -1,5 +1,5 @@
-//! The configuration of a storage: what stands around a name in the path of its file, and the stored type's name. Ported
-//! from `dynamic_storage/dynamic_storage_configuration.rs` of iceoryx2-cal 0.9.3.
+//! The configuration of a storage: what stands around a name in the path of its file, and the stored type's name.
+//! Ported from `dynamic_storage/dynamic_storage_configuration.rs` of iceoryx2-cal 0.9.3.
 ghost use Rattle.std.specs.Prelude.{◌≡◌, Some, refl};
 ghost use Rattle.cal_names.specs.ConceptSettings.{settings_of};
 ghost use Rattle.cal_storage.specs.Configuration.{default_parts};
@@ -17,6 +17,7 @@ pub struct Configuration<T> {
     parts: PathParts,
     /// The name of the stored type, whose hash stands between the prefix and the name.
     type_name: TypeName,
+    /// What is stored.
     of: PhantomData<T>,
 }
 

@@ -19,7 +19,7 @@ pub enum DynamicStorageCreateError {
     /// The file name of the path would have more than 255 bytes.
     #[error("DynamicStorageCreateError::PathTooLong")]
     PathTooLong,
-    /// There was no memory for the name or the entry. The initializer wasn't called.
+    /// There was no memory for the name or the entry.
     #[error("DynamicStorageCreateError::NoMemory")]
     NoMemory,
 }

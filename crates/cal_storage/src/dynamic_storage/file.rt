@@ -1,5 +1,5 @@
-//! The storage that is made as a file is: an entry may be begun and finished later, and an opening looks at its version.
-//! Ported from `dynamic_storage/file.rs` of iceoryx2-cal 0.9.3.
+//! The storage that is made as a file is: an entry may be begun and finished later, and an opening looks at its
+//! version. Ported from `dynamic_storage/file.rs` of iceoryx2-cal 0.9.3.
 ghost use Rattle.std.specs.Prelude.{◌≡◌, ◌⊎◌, true, Some, IfOk, IfErr, IfSome, OnOk, OnErr};
 ghost use Rattle.cal_storage.specs.Plan.{path_of};
 ghost use Rattle.cal_storage.specs.Contents.{new_handle, after_creation};
@@ -39,8 +39,8 @@ impl storage::Kind for File {
 }
 
 impl<T: NamedType + Debug + Drop> builder::Builder<T, File> {
-    /// Begins the storage of this name: its entry is there, but isn't opened until it is finished. What is given back is its
-    /// one holder.
+    /// Begins the storage of this name: its entry is there, but isn't opened until it is finished. What is given back
+    /// is its one holder.
     pub fn begin(
         self,
         reg: &mut Registry<T>,

@@ -1,5 +1,5 @@
-//! The storage of one process: an opening doesn't look at the version of an entry, so it finds one that is being made too.
-//! Ported from `dynamic_storage/process_local.rs` of iceoryx2-cal 0.9.3.
+//! The storage of one process: an opening doesn't look at the version of an entry, so it finds one that is being made
+//! too. Ported from `dynamic_storage/process_local.rs` of iceoryx2-cal 0.9.3.
 ghost use Rattle.std.specs.Prelude.{false};
 
 use crate::dynamic_storage::{builder, configuration, storage};

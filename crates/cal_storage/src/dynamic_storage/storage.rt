@@ -39,6 +39,7 @@ pub struct Storage<T, K> {
     pub(crate) name: FileName,
     /// The entry that the storage holds.
     pub(crate) handle: Handle,
+    /// What is stored, and the kind of storage.
     pub(crate) of: PhantomData<(T, K)>,
 }
 

@@ -48,7 +48,7 @@ fn a_long_name_cannot_be_begun(rt: HostRuntime) -> Result<(), Fail> {
     Ok(())
 }
 
-/// The names, each with a blank behind it.
+/// The names, each with a blank after it.
 fn joined(alloc: Global, names: &[FileName]) -> Result<String, Fail> {
     let mut texts = String::new(alloc);
     for name in names {
@@ -73,8 +73,8 @@ fn make_under_prefix<S: DynamicStorage<i64>>(
     Ok(())
 }
 
-/// The names are listed in the order of the bytes of their paths, in which `-` comes before `.`. Those under another prefix
-/// are listed where this is asked for.
+/// The names are listed in the order of the bytes of their paths, in which `-` comes before `.`. Those under another
+/// prefix are listed where this is asked for.
 fn names_are_listed<S: DynamicStorage<i64>>(rt: &impl Abort, alloc: Global) -> Result<(), Fail> {
     let mut reg = Registry::new(alloc);
     for text in ["b", "ab", "a", "B", "a-"] {

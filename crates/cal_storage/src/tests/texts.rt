@@ -5,19 +5,7 @@ use crate::{
     DynamicStorageOpenOrCreateError, Registry,
 };
 use cal_names::{FileName, NamedConceptBuilder};
-use std::alloc::{AllocError, Global};
-use std::fmt::Display;
 use std::test::Fail;
-
-/// The texts of the values, each with a blank behind it.
-fn printed<T: Display + Drop + Copy>(alloc: Global, values: &[T]) -> Result<String, AllocError> {
-    let mut texts = String::new(alloc);
-    for value in values {
-        texts.push_str(value.to_string(alloc)?.as_str())?;
-        texts.push(' ')?;
-    }
-    Ok(texts)
-}
 
 #[test]
 fn refusals_of_creations_are_printed(rt: HostRuntime) -> Result<(), Fail> {
@@ -25,21 +13,17 @@ fn refusals_of_creations_are_printed(rt: HostRuntime) -> Result<(), Fail> {
         AlreadyExists, InitializationFailed, InsufficientPermissions, InternalError, NoMemory,
         PathTooLong,
     };
-    let texts = printed(
-        rt.alloc(),
-        &[
-            AlreadyExists,
-            InsufficientPermissions,
-            InitializationFailed,
-            InternalError,
-            PathTooLong,
-            NoMemory,
-        ],
-    )?;
-    assert_eq!(rt;
-        texts.as_str(),
-        "DynamicStorageCreateError::AlreadyExists DynamicStorageCreateError::InsufficientPermissions DynamicStorageCreateError::InitializationFailed DynamicStorageCreateError::InternalError DynamicStorageCreateError::PathTooLong DynamicStorageCreateError::NoMemory "
-    );
+    for (error, text) in [
+        (AlreadyExists, "AlreadyExists"),
+        (InsufficientPermissions, "InsufficientPermissions"),
+        (InitializationFailed, "InitializationFailed"),
+        (InternalError, "InternalError"),
+        (PathTooLong, "PathTooLong"),
+        (NoMemory, "NoMemory"),
+    ] {
+        let expected = format!(in rt.alloc(); "DynamicStorageCreateError::{text}")?;
+        assert_eq!(rt; error.to_string(rt.alloc())?.as_str(), expected.as_str());
+    }
     Ok(())
 }
 
@@ -48,20 +32,19 @@ fn refusals_of_openings_are_printed(rt: HostRuntime) -> Result<(), Fail> {
     use DynamicStorageOpenError::{
         DoesNotExist, InitializationNotYetFinalized, InternalError, PathTooLong, VersionMismatch,
     };
-    let texts = printed(
-        rt.alloc(),
-        &[
-            DoesNotExist,
+    for (error, text) in [
+        (DoesNotExist, "DoesNotExist"),
+        (
             InitializationNotYetFinalized,
-            VersionMismatch,
-            InternalError,
-            PathTooLong,
-        ],
-    )?;
-    assert_eq!(rt;
-        texts.as_str(),
-        "DynamicStorageOpenError::DoesNotExist DynamicStorageOpenError::InitializationNotYetFinalized DynamicStorageOpenError::VersionMismatch DynamicStorageOpenError::InternalError DynamicStorageOpenError::PathTooLong "
-    );
+            "InitializationNotYetFinalized",
+        ),
+        (VersionMismatch, "VersionMismatch"),
+        (InternalError, "InternalError"),
+        (PathTooLong, "PathTooLong"),
+    ] {
+        let expected = format!(in rt.alloc(); "DynamicStorageOpenError::{text}")?;
+        assert_eq!(rt; error.to_string(rt.alloc())?.as_str(), expected.as_str());
+    }
     Ok(())
 }
 
@@ -81,10 +64,13 @@ fn an_inner_error_becomes_the_variant_of_its_name(rt: HostRuntime) -> Result<(),
             DynamicStorageCreateError::NoMemory
         )
     );
-    let texts = printed(rt.alloc(), &[opening, creation])?;
     assert_eq!(rt;
-        texts.as_str(),
-        "DynamicStorageOpenOrCreateError::DynamicStorageOpenError DynamicStorageOpenOrCreateError::DynamicStorageCreateError "
+        opening.to_string(rt.alloc())?.as_str(),
+        "DynamicStorageOpenOrCreateError::DynamicStorageOpenError"
+    );
+    assert_eq!(rt;
+        creation.to_string(rt.alloc())?.as_str(),
+        "DynamicStorageOpenOrCreateError::DynamicStorageCreateError"
     );
     Ok(())
 }

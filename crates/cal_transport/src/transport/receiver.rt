@@ -3,10 +3,10 @@
 ghost use Rattle.std.specs.Prelude.{◌≡◌};
 ghost use Rattle.cal_transport.specs.Rules.{receive_rule, read_rule, release_rule, ReceiveDoes, ReadDoes, ReleaseDoes};
 
-use crate::entry::{Entry, entry_at, find_entry};
+use crate::chunk_record::{ChunkRecord, find_record, record_at};
 use crate::reply::{Refusal, Slot};
 use crate::transport::Transport;
-use crate::transport::sender::passes_end;
+use crate::transport::sender::exceeds_bucket;
 use cal_alloc::PointerOffset;
 
 impl Transport {
@@ -23,9 +23,9 @@ impl Transport {
         };
         let pointer = PointerOffset::from_value(value);
         let bucket = pointer.offset() / self.pool.bucket_size();
-        let found = entry_at(&self.entries, &self.owners, bucket);
+        let found = record_at(&self.records, &self.record_indices, bucket);
         self.borrowed += 1;
-        self.entries[found.index] = Entry {
+        self.records[found.index] = ChunkRecord {
             borrowed: true,
             ..found.entry
         };
@@ -62,7 +62,7 @@ impl Transport {
         if channel >= self.settings.channels {
             return Err(Refusal::OutsideConnection);
         }
-        let Some(found) = find_entry(&self.entries, chunk) else {
+        let Some(found) = find_record(&self.records, chunk) else {
             return Err(Refusal::NotBorrowed);
         };
         if let Some(refusal) = self.read_refusal(found.entry, at, length) {
@@ -73,12 +73,12 @@ impl Transport {
     }
 
     /// Why a chunk of the channel can't be read so, if it can't.
-    fn read_refusal(&self, entry: Entry, at: usize, length: usize) -> Option<Refusal>
+    fn read_refusal(&self, entry: ChunkRecord, at: usize, length: usize) -> Option<Refusal>
         ensures rule { result ≡ read_rule self.now entry at length }
     {
         if !entry.borrowed {
             Some(Refusal::NotBorrowed)
-        } else if passes_end(self.pool.bucket_size(), at, length) {
+        } else if exceeds_bucket(self.pool.bucket_size(), at, length) {
             Some(Refusal::OutsideChunk)
         } else {
             None
@@ -93,7 +93,7 @@ impl Transport {
         if channel >= self.settings.channels {
             return Err(Refusal::OutsideConnection);
         }
-        let Some(found) = find_entry(&self.entries, chunk) else {
+        let Some(found) = find_record(&self.records, chunk) else {
             return Err(Refusal::NotBorrowed);
         };
         if let Some(refusal) = self.release_refusal(found.entry) {
@@ -102,7 +102,7 @@ impl Transport {
         let pointer = PointerOffset::new(found.entry.bucket * self.pool.bucket_size());
         self.completions.push(pointer.as_value());
         self.borrowed -= 1;
-        self.entries[found.index] = Entry {
+        self.records[found.index] = ChunkRecord {
             borrowed: false,
             ..found.entry
         };
@@ -110,7 +110,7 @@ impl Transport {
     }
 
     /// Why a chunk of the channel can't be given back, if it can't.
-    fn release_refusal(&self, entry: Entry) -> Option<Refusal>
+    fn release_refusal(&self, entry: ChunkRecord) -> Option<Refusal>
         ensures rule { result ≡ release_rule self.now entry }
     {
         if !entry.borrowed {

@@ -2,11 +2,11 @@
 
 ghost use Rattle.std.specs.Prelude.{◌≡◌, ◌<◌, ◌≤◌, ◌+◌, nat_lt, length, if◌then◌else◌};
 ghost use Rattle.cal_queue.specs.UsedChunks.{contains};
-ghost use Rattle.cal_alloc.specs.Pool.{IsUsedBucket, given_back};
-ghost use Rattle.cal_transport.specs.Entry.{AreBelow};
+ghost use Rattle.cal_alloc.specs.Pool.{IsUsedBucket, after_deallocation};
+ghost use Rattle.cal_transport.specs.ChunkRecord.{AreBelow};
 ghost use Rattle.cal_transport.specs.Rules.{write_rule, send_rule, IsPools, refusal_of, LoanDoes, WriteDoes, SendDoes, ReclaimDoes, DiscardDoes};
 
-use crate::entry::{Entry, entry_at, find_entry};
+use crate::chunk_record::{ChunkRecord, find_record, record_at};
 use crate::memory::{clear, overwrite};
 use crate::reply::{Refusal, Slot};
 use crate::transport::Transport;
@@ -21,10 +21,10 @@ impl Transport {
         size: usize,
         alignment: usize,
     ) -> Result<Slot, Refusal>
-        requires below { AreBelow self.old.entries name }
+        requires below { AreBelow self.old.records name }
         requires room { 0 < self.old.room }
         ensures step { LoanDoes self.old name size alignment result self.new }
-        ensures named { AreBelow self.new.entries (name + 1) }
+        ensures named { AreBelow self.new.records (name + 1) }
         ensures room { self.old.room ≤ self.new.room + 1 }
     {
         let Some(layout) = Layout::new(size, alignment) else {
@@ -37,8 +37,8 @@ impl Transport {
         let place = pointer.offset();
         let bucket = place / self.pool.bucket_size();
         clear(&mut self.memory, place, self.pool.bucket_size());
-        self.owners[bucket] = self.entries.len();
-        self.entries.push_reserved(Entry {
+        self.record_indices[bucket] = self.records.len();
+        self.records.push_reserved(ChunkRecord {
             name,
             bucket,
             loaned: true,
@@ -57,7 +57,7 @@ impl Transport {
         ensures step { WriteDoes self.old chunk at bytes.now result self.new }
         ensures room { self.new.room ≡ self.old.room }
     {
-        let Some(found) = find_entry(&self.entries, chunk) else {
+        let Some(found) = find_record(&self.records, chunk) else {
             return Err(Refusal::NotLoaned);
         };
         if let Some(refusal) = self.write_refusal(found.entry, at, bytes.len()) {
@@ -69,14 +69,14 @@ impl Transport {
     }
 
     /// Why a chunk can't be written so, if it can't.
-    fn write_refusal(&self, entry: Entry, at: usize, length: usize) -> Option<Refusal>
+    fn write_refusal(&self, entry: ChunkRecord, at: usize, length: usize) -> Option<Refusal>
         ensures rule { result ≡ write_rule self.now entry at length }
     {
         if !entry.loaned {
             Some(Refusal::NotLoaned)
         } else if entry.sent {
             Some(Refusal::WriteAfterSend)
-        } else if passes_end(self.pool.bucket_size(), at, length) {
+        } else if exceeds_bucket(self.pool.bucket_size(), at, length) {
             Some(Refusal::OutsideChunk)
         } else {
             None
@@ -88,7 +88,7 @@ impl Transport {
         ensures step { SendDoes self.old channel chunk result self.new }
         ensures room { self.new.room ≡ self.old.room }
     {
-        let Some(found) = find_entry(&self.entries, chunk) else {
+        let Some(found) = find_record(&self.records, chunk) else {
             return Err(Refusal::NotLoaned);
         };
         if let Some(refusal) = self.send_refusal(channel, found.entry) {
@@ -97,7 +97,7 @@ impl Transport {
         let pointer = PointerOffset::new(found.entry.bucket * self.pool.bucket_size());
         self.submissions.push(pointer.as_value());
         self.used.insert(found.entry.bucket);
-        self.entries[found.index] = Entry {
+        self.records[found.index] = ChunkRecord {
             sent: true,
             ..found.entry
         };
@@ -105,7 +105,7 @@ impl Transport {
     }
 
     /// Why a chunk can't be sent on a channel, if it can't.
-    fn send_refusal(&self, channel: usize, entry: Entry) -> Option<Refusal>
+    fn send_refusal(&self, channel: usize, entry: ChunkRecord) -> Option<Refusal>
         ensures rule { result ≡ send_rule self.now channel entry }
     {
         if !entry.loaned {
@@ -134,9 +134,9 @@ impl Transport {
         };
         let pointer = PointerOffset::from_value(value);
         let bucket = pointer.offset() / self.pool.bucket_size();
-        let found = entry_at(&self.entries, &self.owners, bucket);
+        let found = record_at(&self.records, &self.record_indices, bucket);
         self.used.remove(bucket);
-        give_back_unless(&mut self.pool, found.entry.loaned, pointer);
+        free_unless_live(&mut self.pool, found.entry.loaned, pointer);
         Ok(Some(Slot {
             chunk: found.entry.name,
             segment: 0,
@@ -149,7 +149,7 @@ impl Transport {
         ensures step { DiscardDoes self.old chunk result self.new }
         ensures room { self.new.room ≡ self.old.room }
     {
-        let Some(found) = find_entry(&self.entries, chunk) else {
+        let Some(found) = find_record(&self.records, chunk) else {
             return Err(Refusal::NotLoaned);
         };
         if !found.entry.loaned {
@@ -157,8 +157,8 @@ impl Transport {
         }
         let pointer = PointerOffset::new(found.entry.bucket * self.pool.bucket_size());
         let in_transit = self.is_in_transit(found.entry.bucket);
-        give_back_unless(&mut self.pool, in_transit, pointer);
-        self.entries[found.index] = Entry {
+        free_unless_live(&mut self.pool, in_transit, pointer);
+        self.records[found.index] = ChunkRecord {
             loaned: false,
             ..found.entry
         };
@@ -187,16 +187,16 @@ fn refusal_of(error: ShmAllocationError) -> Refusal
 }
 
 /// Whether bytes at a place pass the end of a bucket of this size.
-pub(crate) fn passes_end(size: usize, at: usize, length: usize) -> bool
+pub(crate) fn exceeds_bucket(size: usize, at: usize, length: usize) -> bool
     ensures passes { result ≡ nat_lt size (at + length) }
 {
     at > size || length > size - at
 }
 
 /// Gives a bucket back, unless its chunk is kept.
-fn give_back_unless(pool: &mut PoolAllocator, kept: bool, pointer: PointerOffset)
+fn free_unless_live(pool: &mut PoolAllocator, kept: bool, pointer: PointerOffset)
     requires used { IsUsedBucket pool.old pointer }
-    ensures freed { pool.new ≡ (if kept then pool.old else given_back pool.old pointer) }
+    ensures freed { pool.new ≡ (if kept then pool.old else after_deallocation pool.old pointer) }
 {
     if !kept {
         pool.deallocate_bucket(pointer);

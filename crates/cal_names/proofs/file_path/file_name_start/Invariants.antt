@@ -5,7 +5,7 @@ use Rattle.cal_names.proofs.file_path.file_name_start.Given as goal
 abbrev pub invariant-loop-start : goal.invariant-loop-start
 invariant-loop-start l = record {
   within : l.start ≤ length l.value;
-  behind : (k : ℕ) → l.start ≤ k → k < length l.value → eqb (slice_index l.value k) slash ≡ false;
+  after : (k : ℕ) → l.start ≤ k → k < length l.value → eqb (slice_index l.value k) slash ≡ false;
 }
 
 abbrev pub decreases-loop-start : goal.decreases-loop-start

@@ -4,4 +4,4 @@ use Rattle.cal_program.proofs.examples.a_script_is_spelled.Goals as goal
 
 pub returns : goal.returns
 unfolding digits
-returns c = refl
+returns c = record { spelled = refl }

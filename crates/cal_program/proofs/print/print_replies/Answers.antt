@@ -1,6 +1,6 @@
 use Rattle.std.proofs.Common.{◌≡◌, Some, sym, ap, ◌∙◌}
 use Rattle.std.specs.Prelude.{slice_get, option_copied}
-use Rattle.cal_program.proofs.PageLemmas.{shows-same, reply-parts}
+use Rattle.cal_program.proofs.BufferLemmas.{shows-same, reply-parts}
 use Rattle.cal_program.proofs.print.print_replies.Goals as goal
 
 pub loop-place-preserved : goal.loop-place-preserved
@@ -10,4 +10,4 @@ loop-place-preserved g c from shown h =
     in
     shows-same from c.text.new.self (g.S.Sink.state c.text.new.sink) _ _
     (reply-parts shown c.args.replies.now.items c.loop-place.place c.unwrap-reply.result.now found)
-    (c.text.ensures from _ (c.print_reply.ensures from _ (c.loop-place.invariant from shown h)))
+    (c.text.ensures.text from _ (c.print_reply.ensures from _ (c.loop-place.invariant from shown h)))

@@ -5,4 +5,5 @@ use Rattle.cal_program.proofs.print.print_replies.Given as goal
 
 abbrev pub invariant-loop-place : goal.invariant-loop-place
 invariant-loop-place g l =
-    Follows l.initial.page (g.S.Sink.state l.initial.sink) l.page (g.S.Sink.state l.sink) (reply_lines (take l.place l.replies.items))
+    Follows l.initial.buffer (g.S.Sink.state l.initial.sink) l.buffer (g.S.Sink.state l.sink)
+    (reply_lines (take l.place l.replies.items))

@@ -4,7 +4,8 @@ use Rattle.cal_program.proofs.std_streams.write_all.Given as goal
 
 abbrev pub invariant-loop-rest : goal.invariant-loop-rest
 invariant-loop-rest g l =
-    (sent : List ℕ) × (sent ++ l.rest ≡ l.bytes) × Appends (g.W.Write.contents l.initial.writer) (g.W.Write.contents l.writer) sent
+    (sent : List ℕ) × (sent ++ l.rest ≡ l.bytes) × Appends (g.W.Write.contents l.initial.writer)
+    (g.W.Write.contents l.writer) sent
 
 abbrev pub decreases-loop-rest : goal.decreases-loop-rest
 decreases-loop-rest g l = length l.rest

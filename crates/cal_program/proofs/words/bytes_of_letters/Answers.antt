@@ -9,11 +9,14 @@ loop-place-preserved c =
     let place = c.loop-place.place in
     record {
       within = omega (arith, c.loop-place-test.true);
-      rest = subst (λ (items : List ℕ). with_front items (bytes_of_letters (drop (place + 2) letters)) ≡ bytes_of_letters letters)
+      rest = subst (λ (items : List ℕ). with_front items (bytes_of_letters (drop (place + 2) letters)) ≡
+          bytes_of_letters letters)
           (sym c.in_ok-push.ensures.items)
-          (letters-more c.loop-place.bytes.items letters place c.in-Some.byte _ c.loop-place-test.true (sym c.in-Some.ensures) c.loop-place.invariant.rest);
+          (letters-more c.loop-place.bytes.items letters place c.in-Some.byte _ c.loop-place-test.true
+          (sym c.in-Some.ensures) c.loop-place.invariant.rest);
     }
 
 pub returns-then-place-letters : goal.returns-then-place-letters
 returns-then-place-letters c =
-    letters-odd _ c.args.letters.now c.loop-place.place _ c.if-place-letters.true (omega (arith, c.loop-place-test.false)) c.loop-place.invariant.rest
+    letters-odd _ c.args.letters.now c.loop-place.place _ c.if-place-letters.true
+    (omega (arith, c.loop-place-test.false)) c.loop-place.invariant.rest

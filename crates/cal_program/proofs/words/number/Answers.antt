@@ -5,22 +5,27 @@ use Rattle.cal_program.proofs.WordLemmas.{number_of-other, number_of-great, numb
 use Rattle.cal_program.proofs.words.number.Goals as goal
 
 pub returns-then-not-is_ascii_digit : goal.returns-then-not-is_ascii_digit
-returns-then-not-is_ascii_digit c =
-    number_of-other c.args.word.now c.loop-digit.digit-index c.loop-digit-test.true
-    (sym c.is_ascii_digit.ensures.value ∙ c.if-not-is_ascii_digit.true)
+returns-then-not-is_ascii_digit c = record {
+  value = number_of-other c.args.word.now c.loop-digit.digit-index c.loop-digit-test.true
+      (sym c.is_ascii_digit.ensures.value ∙ c.if-not-is_ascii_digit.true);
+}
 
 pub returns-in_err-value : goal.returns-in_err-value
-returns-in_err-value c =
-    c.from_residual.ensures
-    ∙ number_of-great c.args.word.now c.loop-digit.digit-index c.loop-digit-test.true
-    (omega (arith, c.in_err-value.ensures, c.loop-digit.invariant.value))
+returns-in_err-value c = record {
+  value = c.from_residual.ensures
+      ∙ number_of-great c.args.word.now c.loop-digit.digit-index c.loop-digit-test.true
+      (omega (arith, c.in_err-value.ensures, c.loop-digit.invariant.value));
+}
 
 pub returns-in_err-value-2 : goal.returns-in_err-value-2
 returns-in_err-value-2 c =
-    let digit = digit_value-minus (get_or c.args.word.now c.loop-digit.digit-index 0) (sym c.if-not-is_ascii_digit.ensures.value) in
-    c.from_residual-in_err-value-2.ensures
-    ∙ number_of-great c.args.word.now c.loop-digit.digit-index c.loop-digit-test.true
-    (omega (arith, c.in_err-value-2.ensures, c.in_ok-value.ensures, c.loop-digit.invariant.value))
+    let digit = digit_value-minus (get_or c.args.word.now c.loop-digit.digit-index 0)
+    (sym c.if-not-is_ascii_digit.ensures.value) in
+    record {
+      value = c.from_residual-in_err-value-2.ensures
+          ∙ number_of-great c.args.word.now c.loop-digit.digit-index c.loop-digit-test.true
+          (omega (arith, c.in_err-value-2.ensures, c.in_ok-value.ensures, c.loop-digit.invariant.value));
+    }
 
 pub loop-digit-preserved : goal.loop-digit-preserved
 loop-digit-preserved c =
@@ -38,6 +43,8 @@ loop-digit-preserved c =
     }
 
 pub returns : goal.returns
-returns c =
-    number_of-all c.args.word.now c.loop-digit.digit-index c.loop-digit.value (sym c.if-not-begins_well.ensures)
-    (omega (arith, c.loop-digit-test.false, c.loop-digit.auto.digit-index-end)) c.loop-digit.invariant.digits c.loop-digit.invariant.value c.loop-digit.invariant.fits
+returns c = record {
+  value = number_of-all c.args.word.now c.loop-digit.digit-index c.loop-digit.value (sym c.if-not-begins_well.ensures)
+      (omega (arith, c.loop-digit-test.false, c.loop-digit.auto.digit-index-end))
+      c.loop-digit.invariant.digits c.loop-digit.invariant.value c.loop-digit.invariant.fits;
+}

@@ -25,8 +25,10 @@ loop-index-preserved g c =
     record {
       so_far = rw c.replace.ensures.after (IsClearedBelow-next _ _ i (omega arith) before.so_far);
       owed = elim c.if-replace.branch [
-        | then-replace w ↦ rw w.callback-is (IsOwed-called _ _ _ _ i (omega arith) before.owed _ (is ∙ w.if-replace.true) w.callback.ensures)
-        | else-replace w ↦ rw w.callback-is (IsOwed-skipped _ _ _ _ i (omega arith) before.owed (is ∙ w.if-replace.false))
+        | then-replace w ↦ rw w.callback-is
+            (IsOwed-called _ _ _ _ i (omega arith) before.owed _ (is ∙ w.if-replace.true) w.callback.ensures)
+        | else-replace w ↦ rw w.callback-is
+            (IsOwed-skipped _ _ _ _ i (omega arith) before.owed (is ∙ w.if-replace.false))
       ];
     }
 

@@ -3,4 +3,4 @@ use Rattle.cal_storage.specs.HandleLemmas.{after-Has}
 use Rattle.cal_storage.proofs.laws.a_held_entry_stays.Goals as goal
 
 pub returns : goal.returns
-returns g c = after-Has
+returns g c = record { stays = after-Has }

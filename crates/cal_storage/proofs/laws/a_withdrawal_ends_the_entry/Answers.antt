@@ -3,4 +3,4 @@ use Rattle.cal_storage.specs.EntryLemmas.{after_withdrawal-Withdraws}
 use Rattle.cal_storage.proofs.laws.a_withdrawal_ends_the_entry.Goals as goal
 
 pub returns : goal.returns
-returns g c = λ old handle sound. after_withdrawal-Withdraws old sound handle
+returns g c = record { ends_the_entry = λ old handle sound. after_withdrawal-Withdraws old sound handle }

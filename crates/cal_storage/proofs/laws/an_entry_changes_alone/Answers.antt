@@ -3,4 +3,8 @@ use Rattle.cal_storage.specs.EntryLemmas.{after_finish-ChangesEntry, with_value-
 use Rattle.cal_storage.proofs.laws.an_entry_changes_alone.Goals as goal
 
 pub returns : goal.returns
-returns g c = record { finish = after_finish-ChangesEntry; value = with_value-ChangesEntry; version = with_version-ChangesNamedEntry }
+returns g c = record {
+  finish = after_finish-ChangesEntry;
+  value = with_value-ChangesEntry;
+  version = with_version-ChangesNamedEntry;
+}

@@ -25,6 +25,7 @@ pub struct Staged<T> {
     handle: Handle,
     /// The room of the initializer in bytes, at most 2^56.
     supplementary_size: usize,
+    /// What is stored.
     of: PhantomData<T>,
 }
 
@@ -55,16 +56,17 @@ impl<T> Staged<T> {
 
 impl<T: Drop> Staged<T> {
     /// Finishes the storage: the initializer is called on the value and an allocator over the room. Where it answers
-    /// true the storage has the value that it left, and can be opened; it is the holder from then on. Where it answers false
-    /// that is `InitializationFailed`: the value is dropped, the entry has ended, and its name is gone where it still stood
-    /// for it. Succeeds too where the name was removed. Takes no memory.
+    /// true the storage has the value that it left, and can be opened; it is the holder from then on. Where it answers
+    /// false that is `InitializationFailed`: the value is dropped, the entry has ended, and its name is gone where it
+    /// still stood for it. Succeeds too where the name was removed. Takes no memory.
     pub fn finish<F: FnMut(&mut T, &mut BumpAllocator) -> bool + Drop>(
         self,
         reg: &mut Registry<T>,
         initializer: F,
     ) -> Result<Storage<T>, DynamicStorageCreateError>
         requires there { Has reg.old self.handle }
-        requires callable { IfSome (value_of reg.old self.handle.id) (λ value. MayInitialize F.FnMut initializer value self.room) }
+        requires callable { IfSome (value_of reg.old self.handle.id)
+            (λ value. MayInitialize F.FnMut initializer value self.room) }
         ensures finished { FinishesEntry F.FnMut initializer self.room reg.old self.handle (is_ok result) reg.new }
         ensures handle { IfOk result (λ storage. storage.handle ≡ self.handle) }
         ensures name { IfOk result (λ storage. storage.name ≡ self.name) }

@@ -7,4 +7,5 @@ abbrev pub invariant-loop : goal.invariant-loop
 invariant-loop g l = SameTakeEnd l.initial.take l.take × ((take_pass l.take).received ≡ [])
 
 abbrev pub invariant-loop-2 : goal.invariant-loop-2
-invariant-loop-2 g l = SameTakeEnd l.initial.take l.take × (l.taken.items ≡ map (λ (entry : ℕ × ℕ). entry.1) (take_pass l.take).received)
+invariant-loop-2 g l = SameTakeEnd l.initial.take l.take ×
+    (l.taken.items ≡ map (λ (entry : ℕ × ℕ). entry.1) (take_pass l.take).received)

@@ -9,4 +9,5 @@ invariant_of-result c =
     let layout = c.args.config.now.bucket_layout in
     let size : c.unwrap-bucket_size.result ≡ bucket_size_of layout.size layout.alignment = search rules in
     let power : IsTrue (is_power_of_two layout.alignment) = search rules in
-    kept_new c.args.max_supported_alignment_by_memory c.args.memory_size layout c.requires power _ _ size c.align.ensures.value
+    kept_new c.args.max_supported_alignment_by_memory c.args.memory_size layout c.requires.fits power _ _ _ size
+    c.align.ensures.value c.new.ensures.free

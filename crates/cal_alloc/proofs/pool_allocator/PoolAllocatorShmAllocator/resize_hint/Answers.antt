@@ -7,5 +7,8 @@ use Rattle.cal_alloc.proofs.pool_allocator.PoolAllocatorShmAllocator.resize_hint
 
 pub returns-clause-serves : goal.returns-clause-serves
 returns-clause-serves c growing _ _ =
-    let value : result_ok c.initial_setup_hint.result ≡ pool_resize_hint c.args.self.now c.args.layout c.args.strategy = search rules in
-    IfOk-by c.initial_setup_hint.result _ _ value (λ hint given. resize_hint_serves c.args.self.now c.args.layout c.args.strategy hint c.raised_layout.ensures.sound growing given)
+    let value : result_ok c.initial_setup_hint.result ≡ pool_resize_hint c.args.self.now c.args.layout c.args.strategy =
+    search rules in
+    IfOk-by c.initial_setup_hint.result _ _ value
+    (λ hint given. resize_hint_serves c.args.self.now c.args.layout c.args.strategy hint
+    c.raised_layout.ensures.sound growing given)

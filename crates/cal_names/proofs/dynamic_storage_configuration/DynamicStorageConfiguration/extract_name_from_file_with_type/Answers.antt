@@ -4,4 +4,5 @@ use Rattle.cal_names.proofs.dynamic_storage_configuration.DynamicStorageConfigur
 
 pub returns-clause-exact : goal.returns-clause-exact
 returns-clause-exact g c =
-    exact_from_value (g.Self.NamedConceptConfiguration.settings c.args.self.now) c.args.value.now c.name_of_file.result (search rules)
+    exact_from_value (g.Self.NamedConceptConfiguration.settings c.args.self.now) c.args.value.now c.name_of_file.result
+    (search rules)

@@ -1,5 +1,5 @@
 use Rattle.std.proofs.Common.{rules}
-use Rattle.cal_names.proofs.FilePaths.{parts}
+use Rattle.cal_names.proofs.FilePathLemmas.{parts}
 use Rattle.cal_names.proofs.file_path.FilePath.file_name.Goals as goal
 
 pub unwrap-requires : goal.unwrap-requires

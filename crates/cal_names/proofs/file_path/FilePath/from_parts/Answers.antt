@@ -1,6 +1,6 @@
 use Rattle.std.proofs.Common.{◌≡◌, rules, ap, ◌∙◌}
 use Rattle.cal_names.specs.FilePath.{file_path_of, path_part, file_name_part}
-use Rattle.cal_names.proofs.FilePaths.{path_part_of, file_name_part_of}
+use Rattle.cal_names.proofs.FilePathLemmas.{path_part_of, file_name_part_of}
 use Rattle.cal_names.proofs.file_path.FilePath.from_parts.Goals as goal
 
 pub returns-clause-path : goal.returns-clause-path

@@ -1,7 +1,7 @@
 use Rattle.std.proofs.Common.{◌≡◌, rules, sym, subst}
 use Rattle.cal_names.specs.Path.{IsPath}
 use Rattle.cal_names.specs.FilePath.{path_part}
-use Rattle.cal_names.proofs.FilePaths.{parts}
+use Rattle.cal_names.proofs.FilePathLemmas.{parts}
 use Rattle.cal_names.proofs.file_path.FilePath.path.Goals as goal
 
 pub unwrap-requires : goal.unwrap-requires

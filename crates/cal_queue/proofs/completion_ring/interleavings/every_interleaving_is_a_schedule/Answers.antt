@@ -1,11 +1,13 @@
-use Rattle.cal_queue.proofs.CompletionSchedules.{each_run_is_a_schedule, each_step_is_an_event, new_ring_is_unused}
+use Rattle.cal_queue.specs.RingMachine.{runs_are_schedules}
+use Rattle.cal_queue.specs.CompletionLaw.{completion_machine}
+use Rattle.cal_queue.proofs.CompletionRuns.{new_ring-unused, steps_are_events}
 use Rattle.cal_queue.proofs.completion_ring.interleavings.every_interleaving_is_a_schedule.Goals as goal
 
-pub returns-clause-opens : goal.returns-clause-opens
-returns-clause-opens c = new_ring_is_unused
+pub returns-clause-start : goal.returns-clause-start
+returns-clause-start c = new_ring-unused
 
-pub returns-clause-steps : goal.returns-clause-steps
-returns-clause-steps c = each_step_is_an_event
+pub returns-clause-step : goal.returns-clause-step
+returns-clause-step c = steps_are_events
 
-pub returns-clause-runs : goal.returns-clause-runs
-returns-clause-runs c = each_run_is_a_schedule
+pub returns-clause-run : goal.returns-clause-run
+returns-clause-run c b = runs_are_schedules (completion_machine b.completion) b (steps_are_events b)

@@ -1,11 +1,13 @@
-use Rattle.cal_queue.proofs.SubmissionRuns.{new_ring_is_unused, each_step_is_an_event, each_run_is_a_schedule}
+use Rattle.cal_queue.specs.RingMachine.{runs_are_schedules}
+use Rattle.cal_queue.specs.SubmissionLaw.{submission_machine}
+use Rattle.cal_queue.proofs.SubmissionRuns.{new_ring-unused, steps_are_events}
 use Rattle.cal_queue.proofs.submission_ring.interleavings.every_interleaving_is_a_schedule.Goals as goal
 
 pub returns-clause-start : goal.returns-clause-start
-returns-clause-start c = new_ring_is_unused
+returns-clause-start c = new_ring-unused
 
 pub returns-clause-step : goal.returns-clause-step
-returns-clause-step c = each_step_is_an_event
+returns-clause-step c = steps_are_events
 
 pub returns-clause-run : goal.returns-clause-run
-returns-clause-run c = each_run_is_a_schedule
+returns-clause-run c b = runs_are_schedules (submission_machine b.buffer) b (steps_are_events b)

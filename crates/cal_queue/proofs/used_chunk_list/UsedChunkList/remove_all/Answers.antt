@@ -1,12 +1,18 @@
-use Rattle.std.proofs.Common.{◌≡◌, ap, ◌∙◌}
-use Rattle.cal_queue.specs.UsedChunks.{UsedChunks}
+use Rattle.std.proofs.Common.{◌≡◌, Bool, List, length, replicate, ℕ, ap, sym, ◌∙◌}
+use Rattle.std.proofs.lemmas.List.{with_items_is}
+use Rattle.cal_queue.specs.BitSet.{marks_of}
+use Rattle.cal_queue.specs.UsedChunks.{none_used}
+use Rattle.cal_queue.proofs.BitMarks.{shown-capacity, zero-marks}
 use Rattle.cal_queue.proofs.used_chunk_list.UsedChunkList.remove_all.Goals as goal
 
-pub clear_marks-requires : goal.clear_marks-requires
-clear_marks-requires g c =
-    let marks : c.deref_mut.result.now ≡ c.args.self.now.marks =
-    c.deref_mut.ensures.value ∙ ap (λ (used : UsedChunks). used.marks) c.self.view_is in
-    rw marks c.requires
-
-pub returns-clause-called : goal.returns-clause-called
-returns-clause-called g c = rw (← c.self.view_is, ← c.deref_mut.ensures.value) c.clear_marks.ensures.called
+pub returns-clause-empty : goal.returns-clause-empty
+returns-clause-empty g c =
+    let same : length c.clear_all.new.words ≡ c.self.inside.words.len = c.clear_all.auto.words
+    ∙ c.deref_mut.ensures.len in
+    ap (λ (words : List ℕ). record { marks = marks_of words c.self.inside.capacity })
+    (with_items_is c.self.inside.words c.clear_all.new.words same ∙ c.clear_all.ensures.zero)
+    ∙ ap (λ (marks : List Bool). record { marks = marks })
+    (zero-marks (length c.deref_mut.result.now) c.self.inside.capacity)
+    ∙ ap none_used
+    (shown-capacity c.self.inside.words.items c.self.inside.capacity
+    _ (record { sound = c.self.invariant; is = c.self.view_is }))

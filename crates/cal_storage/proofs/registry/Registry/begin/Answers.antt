@@ -1,5 +1,5 @@
 use Rattle.cal_storage.specs.SoundnessLemmas.{after_creation-IsSound}
-use Rattle.cal_storage.proofs.Entering.{free_of_entered}
+use Rattle.cal_storage.proofs.EnteringLemmas.{free_of_entered}
 use Rattle.cal_storage.proofs.registry.Registry.begin.Goals as goal
 
 pub invariant_of-self-2 : goal.invariant_of-self-2

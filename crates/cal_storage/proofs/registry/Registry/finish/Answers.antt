@@ -1,7 +1,7 @@
 use Rattle.std.proofs.Common.{◌∙◌, sym, ap, subst}
 use Rattle.cal_storage.specs.Contents.{is_id, Has}
 use Rattle.cal_storage.specs.Soundness.{IsSound}
-use Rattle.cal_storage.proofs.ChangeParts.{after_withdrawal-is}
+use Rattle.cal_storage.proofs.ChangeLemmas.{after_withdrawal-is}
 use Rattle.cal_storage.specs.SoundnessLemmas.{after_finish-IsSound, after_withdrawal-IsSound}
 use Rattle.cal_storage.proofs.registry.Registry.finish.Goals as goal
 
@@ -16,4 +16,5 @@ invariant_of-self-2 g c =
     (subst (IsSound {T = g.row.T.Denot})
     (after_withdrawal-is _ c.args.handle.now c.is_id-is_named.result
     (c.is_id-is_named.ensures ∙ ap (λ at. is_id at c.args.handle.now.id) (c.copied.ensures ∙ c.get.ensures.value)))
-    (after_withdrawal-IsSound _ c.self.invariant c.args.handle.now (subst (λ contents. Has contents c.args.handle.now) (sym c.self.view_is) c.requires.there)))
+    (after_withdrawal-IsSound _ c.self.invariant c.args.handle.now
+    (subst (λ contents. Has contents c.args.handle.now) (sym c.self.view_is) c.requires.there)))

@@ -3,7 +3,7 @@ use Rattle.std.proofs.lemmas.Option.{slice_get_within}
 use Rattle.cal_alloc.specs.PointerOffset.{pointer_offset}
 use Rattle.cal_transport.specs.declared.command.Command.TheVariants as command
 use Rattle.cal_transport.specs.declared.reply.Reply.TheVariants.{Released}
-use Rattle.cal_transport.specs.Entry.{IsUnnamed, IsFound}
+use Rattle.cal_transport.specs.ChunkRecord.{HasNoRecord, IsFound}
 use Rattle.cal_transport.specs.Parts.{Does}
 use Rattle.cal_transport.specs.PartsOf.{parts_of}
 use Rattle.cal_transport.specs.Rules.{release_rule}
@@ -13,35 +13,76 @@ use Rattle.cal_transport.proofs.transport.Transport.release.Goals as goal
 
 pub returns-in_default-clause-step : goal.returns-in_default-clause-step
 returns-in_default-clause-step c =
-    release_unnamed c.args.self.now c.args.channel c.args.chunk (subst (λ p. c.args.channel < p.settings.channels) c.self.view_is (let t : c.args.channel < c.self.inside.settings.channels = omega arith in t)) (subst (λ es. IsUnnamed es c.args.chunk) (c.deref.ensures.value ∙ ap (λ p. p.entries) c.self.view_is) c.in_default.ensures.found)
+    release_unnamed c.args.self.now c.args.channel c.args.chunk
+    (subst (λ p. c.args.channel < p.settings.channels) c.self.view_is
+    (let t : c.args.channel < c.self.inside.settings.channels = omega arith in t))
+    (subst (λ es. HasNoRecord es c.args.chunk) (c.deref.ensures.value ∙ ap (λ p. p.records) c.self.view_is)
+    c.in_default.ensures.found)
 
 pub returns-in-Some-release_refusal-clause-step : goal.returns-in-Some-release_refusal-clause-step
 returns-in-Some-release_refusal-clause-step c =
-    release_refused c.args.self.now c.args.channel c.args.chunk c.in-Some.found c.in-Some-release_refusal.refusal (subst (λ p. c.args.channel < p.settings.channels) c.self.view_is (let t : c.args.channel < c.self.inside.settings.channels = omega arith in t))
-    (subst (λ es. IsFound es c.args.chunk c.in-Some.found) (c.deref.ensures.value ∙ ap (λ p. p.entries) c.self.view_is) c.in-Some.ensures.found)
+    release_refused c.args.self.now c.args.channel c.args.chunk c.in-Some.found c.in-Some-release_refusal.refusal
+    (subst (λ p. c.args.channel < p.settings.channels) c.self.view_is
+    (let t : c.args.channel < c.self.inside.settings.channels = omega arith in t))
+    (subst (λ es. IsFound es c.args.chunk c.in-Some.found) (c.deref.ensures.value ∙ ap (λ p. p.records) c.self.view_is)
+    c.in-Some.ensures.found)
     (sym c.in-Some-release_refusal.ensures.rule)
 
 pub overflow_mul-found : goal.overflow_mul-found
 overflow_mul-found c =
-    let within = entry_within (parts_of c.self.inside) c.self.invariant.0 c.args.chunk c.in-Some.found c.self.invariant.1 (subst (λ es. IsFound es c.args.chunk c.in-Some.found) c.deref.ensures.value c.in-Some.ensures.found) in
+    let within = entry_within (parts_of c.self.inside) c.self.invariant.0 c.args.chunk c.in-Some.found
+    c.self.invariant.1 (subst
+    (λ es. IsFound es c.args.chunk c.in-Some.found) c.deref.ensures.value c.in-Some.ensures.found) in
     rw c.bucket_size.ensures.value (let size = c.self.invariant.1.ready.size in omega arith)
 
 pub new-pointer-requires : goal.new-pointer-requires
 new-pointer-requires c =
-    let within = entry_within (parts_of c.self.inside) c.self.invariant.0 c.args.chunk c.in-Some.found c.self.invariant.1 (subst (λ es. IsFound es c.args.chunk c.in-Some.found) c.deref.ensures.value c.in-Some.ensures.found) in
-    rw c.bucket_size.ensures.value (let size = c.self.invariant.1.ready.size in omega arith)
+    let within = entry_within (parts_of c.self.inside) c.self.invariant.0 c.args.chunk c.in-Some.found
+    c.self.invariant.1 (subst
+    (λ es. IsFound es c.args.chunk c.in-Some.found) c.deref.ensures.value c.in-Some.ensures.found) in
+    record { below = rw c.bucket_size.ensures.value (let size = c.self.invariant.1.ready.size in omega arith) }
 
 pub overflow_sub-self : goal.overflow_sub-self
-overflow_sub-self c = borrows_some (parts_of c.self.inside) c.self.invariant.0 c.args.chunk c.in-Some.found c.self.invariant.1 (subst (λ es. IsFound es c.args.chunk c.in-Some.found) c.deref.ensures.value c.in-Some.ensures.found) (may_release (parts_of c.self.inside) c.in-Some.found.entry (sym (c.in_default-release_refusal.ensures.rule ∙ ap (λ p. release_rule p c.in-Some.found.entry) (sym c.self.view_is)))).borrowed
+overflow_sub-self c = borrows_some (parts_of c.self.inside) c.self.invariant.0 c.args.chunk c.in-Some.found
+    c.self.invariant.1 (subst
+    (λ es. IsFound es c.args.chunk c.in-Some.found) c.deref.ensures.value c.in-Some.ensures.found)
+    (may_release (parts_of c.self.inside) c.in-Some.found.entry
+    (sym (c.in_default-release_refusal.ensures.rule ∙ ap
+    (λ p. release_rule p c.in-Some.found.entry) (sym c.self.view_is)))).borrowed
 
 pub index_mut-requires : goal.index_mut-requires
 index_mut-requires c =
-    let there = slice_get_within c.self.inside.entries.items c.in-Some.found.index c.in-Some.found.entry (subst (λ es. IsFound es c.args.chunk c.in-Some.found) c.deref.ensures.value c.in-Some.ensures.found).0 in
-    let long = c.self.inside.entries.ok.0 in omega arith
+    let there = slice_get_within c.self.inside.records.items c.in-Some.found.index c.in-Some.found.entry
+    (subst (λ es. IsFound es c.args.chunk c.in-Some.found) c.deref.ensures.value c.in-Some.ensures.found).0 in
+    let long = c.self.inside.records.ok.0 in omega arith
 
 pub invariant_of-self : goal.invariant_of-self
-invariant_of-self c = sound_after (parts_of c.self.inside) _ 0 (command.Release c.args.channel c.args.chunk) Released c.self.invariant.0 c.self.invariant.1 (released_by (parts_of c.self.inside) c.args.channel c.args.chunk c.in-Some.found c.as_value.result c.push.new.self (let t : c.args.channel < c.self.inside.settings.channels = omega arith in t) (subst (λ es. IsFound es c.args.chunk c.in-Some.found) c.deref.ensures.value c.in-Some.ensures.found) (c.in_default-release_refusal.ensures.rule ∙ ap (λ p. release_rule p c.in-Some.found.entry) (sym c.self.view_is)) (c.as_value.ensures ∙ c.new-pointer.ensures ∙ ap (λ n. pointer_offset (c.in-Some.found.entry.bucket * n) 0) c.bucket_size.ensures.value) (release_joins c.push.result c.self.inside.completions c.push.new.self c.as_value.result (parts_of c.self.inside) c.in-Some.found.entry (c.in_default-release_refusal.ensures.rule ∙ ap (λ p. release_rule p c.in-Some.found.entry) (sym c.self.view_is)) c.push.ensures.room c.push.ensures.joined) 0)
+invariant_of-self c = sound_after (parts_of c.self.inside) _ 0 (command.Release c.args.channel c.args.chunk) Released
+    c.self.invariant.0 c.self.invariant.1
+    (released_by (parts_of c.self.inside) c.args.channel c.args.chunk c.in-Some.found c.as_value.result c.push.new.self
+    (let t : c.args.channel < c.self.inside.settings.channels = omega arith in t)
+    (subst (λ es. IsFound es c.args.chunk c.in-Some.found) c.deref.ensures.value c.in-Some.ensures.found)
+    (c.in_default-release_refusal.ensures.rule ∙ ap (λ p. release_rule p c.in-Some.found.entry) (sym c.self.view_is))
+    (c.as_value.ensures.value ∙ c.new-pointer.ensures.value ∙ ap
+    (λ n. pointer_offset (c.in-Some.found.entry.bucket * n) 0) c.bucket_size.ensures.value)
+    (release_joins c.push.result c.self.inside.completions c.push.new.self c.as_value.result (parts_of c.self.inside)
+    c.in-Some.found.entry (c.in_default-release_refusal.ensures.rule ∙ ap
+    (λ p. release_rule p c.in-Some.found.entry) (sym c.self.view_is)) c.push.ensures.room c.push.ensures.joined) 0)
 
 pub returns-clause-step : goal.returns-clause-step
 returns-clause-step c =
-    λ place. subst (λ p. Does p place (command.Release c.args.channel c.args.chunk) Released (record (released_parts (parts_of c.self.inside) c.in-Some.found.index c.in-Some.found.entry) { completions = c.push.new.self })) c.self.view_is (released_by (parts_of c.self.inside) c.args.channel c.args.chunk c.in-Some.found c.as_value.result c.push.new.self (let t : c.args.channel < c.self.inside.settings.channels = omega arith in t) (subst (λ es. IsFound es c.args.chunk c.in-Some.found) c.deref.ensures.value c.in-Some.ensures.found) (c.in_default-release_refusal.ensures.rule ∙ ap (λ p. release_rule p c.in-Some.found.entry) (sym c.self.view_is)) (c.as_value.ensures ∙ c.new-pointer.ensures ∙ ap (λ n. pointer_offset (c.in-Some.found.entry.bucket * n) 0) c.bucket_size.ensures.value) (release_joins c.push.result c.self.inside.completions c.push.new.self c.as_value.result (parts_of c.self.inside) c.in-Some.found.entry (c.in_default-release_refusal.ensures.rule ∙ ap (λ p. release_rule p c.in-Some.found.entry) (sym c.self.view_is)) c.push.ensures.room c.push.ensures.joined) place)
+    λ place. subst (λ p. Does p place (command.Release c.args.channel c.args.chunk) Released
+    (record (released_parts (parts_of c.self.inside) c.in-Some.found.index c.in-Some.found.entry)
+    { completions = c.push.new.self })) c.self.view_is
+    (released_by (parts_of c.self.inside) c.args.channel c.args.chunk c.in-Some.found c.as_value.result
+    c.push.new.self (let t : c.args.channel < c.self.inside.settings.channels = omega arith in t)
+    (subst (λ es. IsFound es c.args.chunk c.in-Some.found) c.deref.ensures.value c.in-Some.ensures.found)
+    (c.in_default-release_refusal.ensures.rule ∙ ap
+    (λ p. release_rule p c.in-Some.found.entry) (sym c.self.view_is))
+    (c.as_value.ensures.value ∙ c.new-pointer.ensures.value ∙ ap
+    (λ n. pointer_offset (c.in-Some.found.entry.bucket * n) 0) c.bucket_size.ensures.value)
+    (release_joins c.push.result c.self.inside.completions c.push.new.self c.as_value.result
+    (parts_of c.self.inside) c.in-Some.found.entry
+    (c.in_default-release_refusal.ensures.rule ∙ ap
+    (λ p. release_rule p c.in-Some.found.entry) (sym c.self.view_is)) c.push.ensures.room c.push.ensures.joined)
+    place)

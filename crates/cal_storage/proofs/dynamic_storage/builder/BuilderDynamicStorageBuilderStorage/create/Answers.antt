@@ -4,7 +4,7 @@ use Rattle.cal_names.specs.ConceptSettings.{settings_of}
 use Rattle.cal_storage.specs.Contents.{id_at}
 use Rattle.cal_storage.specs.HoldingLemmas.{after_creation-IsNamed, after_creation-KeepsHandles}
 use Rattle.cal_storage.specs.Plan.{StoragePlan}
-use Rattle.cal_storage.proofs.Refusing.{cause_of_error}
+use Rattle.cal_storage.proofs.RefusalLemmas.{cause_of_error}
 use Rattle.cal_storage.proofs.dynamic_storage.builder.BuilderDynamicStorageBuilderStorage.create.Goals as goal
 
 pub returns-in_err-id-clause-error : goal.returns-in_err-id-clause-error

@@ -5,7 +5,7 @@ use Rattle.cal_storage.specs.Contents.{id_at}
 use Rattle.cal_storage.specs.HoldingLemmas.{after_creation-IsNamed}
 use Rattle.cal_storage.specs.Staged.{Staged}
 use Rattle.cal_storage.specs.Plan.{StoragePlan}
-use Rattle.cal_storage.proofs.Refusing.{cause_of_error}
+use Rattle.cal_storage.proofs.RefusalLemmas.{cause_of_error}
 use Rattle.cal_storage.proofs.dynamic_storage.file.builder+Builder+T+File.begin.Goals as goal
 
 pub returns-in_err-id-clause-error : goal.returns-in_err-id-clause-error
@@ -19,8 +19,10 @@ returns-in_err-id-clause-error g c =
     } in
     rw (p.1, p.2, ← c.self.view_is)
     (cause_of_error c.args.reg.now plan (c.in-Ok.ensures.fits.0 refl) c.in_err-id.field-0.0
-    (λ same. subst (λ path. IsSome (id_at c.args.reg.now path)) c.in-Ok.ensures.path (c.in_err-id.ensures.exists.0 (ap (λ error. Err error) same)))
-    (elim c.in_err-id.ensures.error [ inl same ↦ inl (ap (λ error. Some error) (sym same)) | inr no_memory ↦ inr no_memory ]))
+    (λ same. subst (λ path. IsSome (id_at c.args.reg.now path)) c.in-Ok.ensures.path
+    (c.in_err-id.ensures.exists.0 (ap (λ error. Err error) same)))
+    (elim c.in_err-id.ensures.error
+    [ inl same ↦ inl (ap (λ error. Some error) (sym same)) | inr no_memory ↦ inr no_memory ]))
 
 pub returns-clause-named : goal.returns-clause-named
 returns-clause-named g c =

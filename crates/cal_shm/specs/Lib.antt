@@ -1,0 +1,7 @@
+pub mod Calls
+pub mod Configuration
+pub mod Lends
+pub mod Plan
+pub mod Refusals
+pub mod Segment
+pub mod TypeName

@@ -1,0 +1,8 @@
+//! Worked examples through the public calls.
+
+mod bump_segments;
+mod names;
+mod shared_bytes;
+mod stored_bytes;
+mod texts;
+mod worked_example;

@@ -1,0 +1,24 @@
+use Rattle.std.proofs.Common.{rules, false, sym}
+use Rattle.std.proofs.lemmas.Cmp.{ranked}
+use Rattle.std.proofs.lemmas.List.Sorted.{answers_always}
+use Rattle.cal_transport.specs.declared.chunk_record.ChunkRecord.{ChunkRecord}
+use Rattle.cal_transport.proofs.Lookup.{slice_get-here, has_no_record}
+use Rattle.cal_transport.proofs.chunk_record.find_record.Goals as goal
+
+pub returns-in-Ok : goal.returns-in-Ok
+returns-in-Ok c =
+    let found = c.in-Ok.ensures.position
+    (λ (entry : ChunkRecord). entry.name) (answers_always _ _ _ (λ f a r g called. search rules)) in
+    let none : ChunkRecord = record { name = 0; bucket = 0; loaned = false; sent = false; borrowed = false } in
+    record {
+      found = (
+        slice_get-here c.args.records.now c.in-Ok.index none c.in-Ok.ensures.bound,
+        ranked _ c.args.name _ (sym (found none)),
+      );
+    }
+
+pub returns-in-Err : goal.returns-in-Err
+returns-in-Err c =
+    let parted = c.in-Err.ensures.position
+    (λ (entry : ChunkRecord). entry.name) (answers_always _ _ _ (λ f a r g called. search rules)) in
+    record { found = has_no_record c.args.records.now c.args.name _ c.requires.rising parted }

@@ -1,0 +1,160 @@
+//! What no clause says: that calls succeed with ample memory, and the texts of errors.
+
+use crate::{
+    Bytes, Command, CreateCause, Refusal, Replies, Reply, RunError, Settings, Slot, run_transport,
+};
+use cal_alloc::AllocationStrategy;
+use std::process::Abort;
+use std::test::Fail;
+
+/// One bucket of eight bytes, and one channel.
+const SMALL: Settings = Settings {
+    size: 8,
+    alignment: 8,
+    count: 1,
+    strategy: AllocationStrategy::Static,
+    buffer: 1,
+    borrow: 1,
+    overflow: false,
+    samples: 1,
+    segments: 1,
+    channels: 1,
+};
+
+/// The chunk that is the first command's, where there is one bucket.
+const FIRST: Slot = Slot {
+    chunk: 1,
+    segment: 0,
+    place: 0,
+};
+
+fn assert_replies(rt: &impl Abort, replies: &Replies<Reply>, due: &[Reply]) {
+    assert_eq!(rt; replies.len(), due.len());
+    for (place, reply) in due.iter().enumerate() {
+        assert_eq!(rt; replies.get(place), Some(reply));
+    }
+    assert_eq!(rt; replies.get(due.len()), None);
+}
+
+#[test]
+fn bytes_of_their_own(rt: HostRuntime) -> Result<(), Fail> {
+    let bytes = Bytes::new(rt.alloc(), b"\x7b\0")?;
+    assert_eq!(rt; bytes.as_slice(), b"\x7b\0".as_slice());
+    assert_eq!(rt; bytes, Bytes::from(Vec::from_slice(rt.alloc(), b"\x7b\0")?));
+    assert_ne!(rt; bytes, Bytes::new(rt.alloc(), b"\x7b")?);
+    Ok(())
+}
+
+#[test]
+fn replies_with_room(rt: HostRuntime) -> Result<(), Fail> {
+    let mut replies = Replies::new(rt.alloc(), 2)?;
+    assert!(rt; replies.spare() >= 2);
+    replies.push(7_u8);
+    assert_eq!(rt; replies.len(), 1);
+    assert_eq!(rt; replies.get(0), Some(&7));
+    assert_eq!(rt; replies.get(1), None);
+    assert_eq!(rt; Replies::<Reply>::empty(rt.alloc()).len(), 0);
+    Ok(())
+}
+
+#[test]
+fn each_command_that_is_served(rt: HostRuntime) -> Result<(), Fail> {
+    let bytes = Bytes::new(rt.alloc(), b"\x7b\0")?;
+    let mut commands = Vec::new(rt.alloc());
+    commands.push(Command::Loan {
+        size: 8,
+        alignment: 8,
+    })?;
+    commands.push(Command::Write {
+        chunk: 1,
+        at: 0,
+        bytes,
+    })?;
+    commands.push(Command::Send {
+        channel: 0,
+        chunk: 1,
+    })?;
+    commands.push(Command::Receive { channel: 0 })?;
+    commands.push(Command::Read {
+        channel: 0,
+        chunk: 1,
+        at: 0,
+        length: 2,
+    })?;
+    commands.push(Command::Loan {
+        size: 8,
+        alignment: 8,
+    })?;
+    commands.push(Command::Discard { chunk: 1 })?;
+    commands.push(Command::Release {
+        channel: 0,
+        chunk: 1,
+    })?;
+    let transit = [
+        Reply::Loaned(FIRST),
+        Reply::Written,
+        Reply::Sent(None),
+        Reply::Received(Some(FIRST)),
+        Reply::Shown(Bytes::new(rt.alloc(), b"\x7b\0")?),
+        Reply::Refused(Refusal::OutOfMemory),
+        Reply::Discarded,
+        Reply::Released,
+        Reply::Transit {
+            channel: 0,
+            slot: FIRST,
+        },
+    ];
+    match run_transport(rt.alloc(), &SMALL, commands.as_slice()) {
+        Ok(replies) => assert_replies(&rt, &replies, &transit),
+        Err(_) => return Err("the run is whole".into()),
+    }
+    commands.push(Command::Reclaim { channel: 0 })?;
+    match run_transport(rt.alloc(), &SMALL, commands.as_slice()) {
+        Ok(replies) => assert_eq!(rt; replies.get(8), Some(&Reply::Reclaimed(Some(FIRST)))),
+        Err(_) => return Err("the run is whole".into()),
+    }
+    Ok(())
+}
+
+#[test]
+fn why_there_is_no_run(rt: HostRuntime) -> Result<(), Fail> {
+    let odd = Settings {
+        alignment: 3,
+        ..SMALL
+    };
+    let create = run_transport(rt.alloc(), &odd, &[]);
+    assert!(rt; matches!(create, Err(RunError::Create(CreateCause::BadLayout))));
+    let growing = Settings {
+        strategy: AllocationStrategy::BestFit,
+        ..SMALL
+    };
+    let unbuilt = run_transport(rt.alloc(), &growing, &[]);
+    assert!(rt; matches!(&unbuilt, Err(RunError::NotBuilt(replies)) if replies.len() == 0));
+    let large = Settings {
+        size: 1 << 56,
+        ..SMALL
+    };
+    let no_memory = run_transport(rt.alloc(), &large, &[]);
+    assert!(rt; matches!(&no_memory, Err(RunError::NoMemory(replies)) if replies.len() == 0));
+    Ok(())
+}
+
+#[test]
+fn the_texts_of_errors(rt: HostRuntime) -> Result<(), Fail> {
+    let create = RunError::Create(CreateCause::BadLayout);
+    assert_eq!(rt;
+        format!(in rt.alloc(); "{create}")?.as_str(),
+        "RunError::Create"
+    );
+    let no_memory = RunError::NoMemory(Replies::empty(rt.alloc()));
+    assert_eq!(rt;
+        format!(in rt.alloc(); "{no_memory}")?.as_str(),
+        "RunError::NoMemory"
+    );
+    let unbuilt = RunError::NotBuilt(Replies::empty(rt.alloc()));
+    assert_eq!(rt;
+        format!(in rt.alloc(); "{unbuilt}")?.as_str(),
+        "RunError::NotBuilt"
+    );
+    Ok(())
+}
