@@ -19,15 +19,15 @@ pub AreClosedBelow-set : (channels : List ChannelEntry) (index : ℕ) (channel :
 AreClosedBelow-set channels index channel within below = record {
   closed = λ k before. elim (cases_eq k index) [
     | inl same ↦
-      let here : slice_index_or (slice_set channels index (closed_channel channel)) k no_channel ≡ closed_channel channel =
-      ap (λ i. slice_index_or (slice_set channels index (closed_channel channel)) i no_channel) same
-      ∙ get_or-set_same channels index (closed_channel channel) no_channel within in
-      here ∙ ap closed_channel (sym here)
+        let here : slice_index_or (slice_set channels index (closed_channel channel)) k no_channel ≡ closed_channel channel =
+        ap (λ i. slice_index_or (slice_set channels index (closed_channel channel)) i no_channel) same
+        ∙ get_or-set_same channels index (closed_channel channel) no_channel within in
+        here ∙ ap closed_channel (sym here)
     | inr apart ↦
-      let there : slice_index_or (slice_set channels index (closed_channel channel)) k no_channel
-      ≡ slice_index_or channels k no_channel =
-      get_or-set_other channels index k (closed_channel channel) no_channel apart in
-      there ∙ below.closed k (omega arith) ∙ ap closed_channel (sym there)
+        let there : slice_index_or (slice_set channels index (closed_channel channel)) k no_channel
+        ≡ slice_index_or channels k no_channel =
+        get_or-set_other channels index k (closed_channel channel) no_channel apart in
+        there ∙ below.closed k (omega arith) ∙ ap closed_channel (sym there)
   ];
 }
 
@@ -37,7 +37,7 @@ pub all_closed : (channels : List ChannelEntry) (index : ℕ) → length channel
 all_closed channels index all below =
     same_lists channels (map closed_channel channels) (sym (length-map channels closed_channel))
     (λ k d within.
-      get_or_default channels k d no_channel within ∙ below.closed k (omega arith)
-      ∙ sym (get_or-map closed_channel channels k no_channel)
-      ∙ get_or_default (map closed_channel channels) k (closed_channel no_channel) d
-      (subst (λ n. k < n) (sym (length-map channels closed_channel)) within))
+    get_or_default channels k d no_channel within ∙ below.closed k (omega arith)
+    ∙ sym (get_or-map closed_channel channels k no_channel)
+    ∙ get_or_default (map closed_channel channels) k (closed_channel no_channel) d
+    (subst (λ n. k < n) (sym (length-map channels closed_channel)) within))

@@ -61,8 +61,8 @@ module _ (Allows : ℕ → BackpressureToReceiverAction → Type 0) (strategy : 
       let found : ChannelEntry = channel_of contents handle channel in
       elim (cases_Bool (is_refused overflow found)) [
         | inl refused ↦
-          sym (with_channel_of-present contents handle channel has)
-          ∙ ap (with_channel_of contents handle channel) (sym (if_true (is_refused overflow found) found _ refused))
+            sym (with_channel_of-present contents handle channel has)
+            ∙ ap (with_channel_of contents handle channel) (sym (if_true (is_refused overflow found) found _ refused))
         | inr room ↦ absurd (sent_first room answered)
       ]
     where

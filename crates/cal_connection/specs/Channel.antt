@@ -1,8 +1,8 @@
 -- A channel of a connection, what each call answers of it and what it leaves. A call looks at its own channel alone.
 use Rattle.std.specs.Prelude.{◌≡◌, ℕ, ◌+◌, ◌-◌, ◌/◌, ◌%◌, Bool, not, ◌&&◌, ◌==◌, nat_le, List, [], map, replicate, Option, Some, None, Result, Ok, Err, slice_index_or, slice_set, if◌then◌else◌}
 use Rattle.cal_alloc.specs.PointerOffset.{offset_of, segment_of}
-pub use Rattle.cal_queue.specs.Queue.{Queue, empty, is_empty, is_full, oldest, popped, pushed, displaced, with_room}
-pub use Rattle.cal_queue.specs.UsedChunks.{UsedChunks, capacity_of, contains, inserted, removed, none_used}
+pub use Rattle.cal_queue.specs.Queue.{Queue, empty, is_empty, is_full, oldest, after_pop, after_push, overflow_of, with_room}
+pub use Rattle.cal_queue.specs.UsedChunks.{UsedChunks, capacity_of, contains, after_insertion, after_removal, none_used}
 use Rattle.cal_connection.specs.declared.segment_details.SegmentDetails.{SegmentDetails}
 use Rattle.cal_connection.specs.declared.settings.ConnectionSettings.{ConnectionSettings}
 use Rattle.cal_connection.specs.Settings.{completion_size}
@@ -48,7 +48,7 @@ names_used_entry segments pointer = names_used (segment_at segments (segment_of 
 
 -- a segment whose entry was taken back: the index that the offset names isn't in use
 abbrev pub without_used : SegmentDetails → ℕ → SegmentDetails
-without_used details offset = record details { used = removed details.used (offset / details.sample_size) }
+without_used details offset = record details { used = after_removal details.used (offset / details.sample_size) }
 
 abbrev pub without_entry : List SegmentDetails → ℕ → List SegmentDetails
 without_entry segments pointer =
@@ -68,7 +68,7 @@ return_answer error segments (Some pointer) =
 
 -- a sample of this size is in use, and the segment's samples have this size from then on
 abbrev pub with_used : SegmentDetails → ℕ → ℕ → SegmentDetails
-with_used details sample_size index = record { used = inserted details.used index; sample_size = sample_size }
+with_used details sample_size index = record { used = after_insertion details.used index; sample_size = sample_size }
 
 abbrev pub with_entry : List SegmentDetails → ℕ → ℕ → List SegmentDetails
 with_entry segments pointer sample_size =
@@ -84,15 +84,15 @@ is_refused overflow channel = not overflow && is_full channel.submission
 abbrev pub send_answer : Bool → ChannelEntry → ℕ → ℕ → Result (Option ℕ) ZeroCopySendError
 send_answer overflow channel pointer sample_size =
     if is_refused overflow channel then Err ReceiveBufferFull
-    else return_answer ConnectionCorrupted (with_entry channel.segments pointer sample_size) (displaced channel.submission)
+    else return_answer ConnectionCorrupted (with_entry channel.segments pointer sample_size) (overflow_of channel.submission)
 
 -- the offset is in use and queued as the last, and the oldest leaves a full queue and is judged by the sizes as they now are
 abbrev pub after_send : Bool → ChannelEntry → ℕ → ℕ → ChannelEntry
 after_send overflow channel pointer sample_size =
     if is_refused overflow channel then channel
     else record channel {
-      submission = pushed (with_room channel.submission) pointer;
-      segments = after_return (with_entry channel.segments pointer sample_size) (displaced channel.submission);
+      submission = after_push (with_room channel.submission) pointer;
+      segments = after_return (with_entry channel.segments pointer sample_size) (overflow_of channel.submission);
     }
 
 -- ---- receive
@@ -106,7 +106,7 @@ receive_answer limit count channel =
 
 abbrev pub after_receive : ℕ → ℕ → ChannelEntry → ChannelEntry
 after_receive limit count channel =
-    if is_at_limit limit count then channel else record channel { submission = popped channel.submission }
+    if is_at_limit limit count then channel else record channel { submission = after_pop channel.submission }
 
 -- how many offsets are borrowed after a receive with this answer
 abbrev pub count_after_receive : Result (Option ℕ) ZeroCopyReceiveError → ℕ → ℕ
@@ -121,7 +121,7 @@ release_answer channel = if is_full channel.completion then Err RetrieveBufferFu
 
 abbrev pub after_release : ChannelEntry → ℕ → ChannelEntry
 after_release channel pointer =
-    if is_full channel.completion then channel else record channel { completion = pushed channel.completion pointer }
+    if is_full channel.completion then channel else record channel { completion = after_push channel.completion pointer }
 
 abbrev pub count_after_release : Result (Unit {0}) ZeroCopyReleaseError → ℕ → ℕ
 count_after_release (Err error) count = count
@@ -136,7 +136,7 @@ reclaim_answer channel =
 -- the oldest leaves the completion queue, and is taken out of the used entries where it names one
 abbrev pub after_reclaim : ChannelEntry → ChannelEntry
 after_reclaim channel = record channel {
-  completion = popped channel.completion;
+  completion = after_pop channel.completion;
   segments = after_return channel.segments (oldest channel.completion);
 }
 

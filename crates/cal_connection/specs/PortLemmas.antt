@@ -87,9 +87,9 @@ map-replicate f n x =
     same_lists (map f (replicate n x)) (replicate n (f x))
     (length-map (replicate n x) f ∙ length-replicate n x ∙ sym (length-replicate n (f x)))
     (λ k d below.
-      let within : k < n = subst (λ m. k < m) (length-map (replicate n x) f ∙ length-replicate n x) below in
-      get_or_default (map f (replicate n x)) k d (f x) below ∙ get_or-map f (replicate n x) k x
-      ∙ ap f (get_or-replicate n k x x within) ∙ sym (get_or-replicate n k (f x) d within))
+    let within : k < n = subst (λ m. k < m) (length-map (replicate n x) f ∙ length-replicate n x) below in
+    get_or_default (map f (replicate n x)) k d (f x) below ∙ get_or-map f (replicate n x) k x
+    ∙ ap f (get_or-replicate n k x x within) ∙ sym (get_or-replicate n k (f x) d within))
 
 shape-new_channel : (settings : ConnectionSettings) (word : ℕ) → shape (new_channel settings word) ≡ shape_of settings
 shape-new_channel settings word =

@@ -83,14 +83,14 @@ module _ (contents : Contents PortEntry) (handle : Handle) (port : PortEntry) wh
     Has-with_value contents handle.id port other holds.0,
     elim (cases_eq other.id handle.id) [
       | inl same ↦
-        subst (λ i. IsSomeAnd (entry_of (with_port contents handle port) i) (λ entry. count ≤ entry.holders)) (sym same)
-        (subst (λ (o : Option (Entry PortEntry)). IsSomeAnd o (λ entry. count ≤ entry.holders))
-        (sym (entry_of-with_value-same contents handle.id port))
-        (as_many count (entry_of contents handle.id)
-        (subst (λ i. IsSomeAnd (entry_of contents i) (λ entry. count ≤ entry.holders)) same holds.1)))
+          subst (λ i. IsSomeAnd (entry_of (with_port contents handle port) i) (λ entry. count ≤ entry.holders)) (sym same)
+          (subst (λ (o : Option (Entry PortEntry)). IsSomeAnd o (λ entry. count ≤ entry.holders))
+          (sym (entry_of-with_value-same contents handle.id port))
+          (as_many count (entry_of contents handle.id)
+          (subst (λ i. IsSomeAnd (entry_of contents i) (λ entry. count ≤ entry.holders)) same holds.1)))
       | inr apart ↦
-        subst (λ (o : Option (Entry PortEntry)). IsSomeAnd o (λ entry. count ≤ entry.holders))
-        (sym (entry_of-with_value-other contents handle.id port other.id apart)) holds.1
+          subst (λ (o : Option (Entry PortEntry)). IsSomeAnd o (λ entry. count ≤ entry.holders))
+          (sym (entry_of-with_value-other contents handle.id port other.id apart)) holds.1
     ],
   )
 

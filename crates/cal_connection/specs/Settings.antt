@@ -4,8 +4,13 @@ use Rattle.std.proofs.Math.Bool.{beq}
 use Rattle.cal_connection.specs.declared.settings.ConnectionSettings.{ConnectionSettings}
 use Rattle.cal_connection.specs.declared.errors.ZeroCopyCreationError.{ZeroCopyCreationError}
 use Rattle.cal_connection.specs.declared.errors.ZeroCopyCreationError.TheVariants.{
-  IncompatibleBufferSize, IncompatibleMaxBorrowedSamplesPerChannelSetting, IncompatibleOverflowSetting,
-  IncompatibleNumberOfSamples, IncompatibleNumberOfSegments, IncompatibleNumberOfChannels}
+  IncompatibleBufferSize,
+  IncompatibleMaxBorrowedSamplesPerChannelSetting,
+  IncompatibleOverflowSetting,
+  IncompatibleNumberOfSamples,
+  IncompatibleNumberOfSegments,
+  IncompatibleNumberOfChannels,
+}
 
 -- how many offsets the completion queue of a channel holds
 abbrev pub completion_size : ConnectionSettings → ℕ

@@ -5,7 +5,7 @@ use Rattle.std.proofs.Math.Seq.{map-set_same}
 use Rattle.std.proofs.lemmas.List.{length-set}
 use Rattle.cal_alloc.specs.PointerOffset.{offset_of, segment_of}
 use Rattle.cal_connection.specs.declared.segment_details.SegmentDetails.{SegmentDetails}
-use Rattle.cal_connection.specs.Channel.{Queue, ChannelEntry, Shape, shape, samples_of, capacity_of, no_segment, segment_at, names_used_entry, with_entry, without_entry, after_return, with_used, without_used, is_refused, is_full, is_at_limit, after_send, after_receive, after_release, after_reclaim, after_acquire, emptied, popped, pushed, oldest, displaced, with_room, with_word}
+use Rattle.cal_connection.specs.Channel.{Queue, ChannelEntry, Shape, shape, samples_of, capacity_of, no_segment, segment_at, names_used_entry, with_entry, without_entry, after_return, with_used, without_used, is_refused, is_full, is_at_limit, after_send, after_receive, after_release, after_reclaim, after_acquire, emptied, after_pop, after_push, oldest, overflow_of, with_room, with_word}
 
 -- ---- used entries
 
@@ -40,7 +40,7 @@ samples-after_return segments (Some pointer) = by_test (names_used_entry segment
 
 -- ---- queues
 
-capacity-with_room : (full : Bool) (q : Queue) → (if full then popped q else q).capacity ≡ q.capacity
+capacity-with_room : (full : Bool) (q : Queue) → (if full then after_pop q else q).capacity ≡ q.capacity
 capacity-with_room true q = refl
 capacity-with_room false q = refl
 
@@ -55,27 +55,27 @@ shape-after_send overflow channel pointer sample_size = by_test (is_refused over
   where
     sent : ChannelEntry
     sent = record channel {
-      submission = pushed (with_room channel.submission) pointer;
-      segments = after_return (with_entry channel.segments pointer sample_size) (displaced channel.submission);
+      submission = after_push (with_room channel.submission) pointer;
+      segments = after_return (with_entry channel.segments pointer sample_size) (overflow_of channel.submission);
     }
 
     by_test : (refused : Bool) → shape (if refused then channel else record channel {
-      submission = pushed (with_room channel.submission) pointer;
-      segments = after_return (with_entry channel.segments pointer sample_size) (displaced channel.submission);
+      submission = after_push (with_room channel.submission) pointer;
+      segments = after_return (with_entry channel.segments pointer sample_size) (overflow_of channel.submission);
     }) ≡ shape channel
     by_test true = refl
     by_test false =
-        ap (λ c. record { submission = c; completion = channel.completion.capacity; samples = map samples_of (after_return (with_entry channel.segments pointer sample_size) (displaced channel.submission)) })
+        ap (λ c. record { submission = c; completion = channel.completion.capacity; samples = map samples_of (after_return (with_entry channel.segments pointer sample_size) (overflow_of channel.submission)) })
         (capacity-with_room (is_full channel.submission) channel.submission)
         ∙ ap (λ s. record { submission = channel.submission.capacity; completion = channel.completion.capacity; samples = s })
-        (samples-after_return (with_entry channel.segments pointer sample_size) (displaced channel.submission)
+        (samples-after_return (with_entry channel.segments pointer sample_size) (overflow_of channel.submission)
         ∙ samples-with_entry channel.segments pointer sample_size)
 
 pub shape-after_receive : (limit count : ℕ) (channel : ChannelEntry) → shape (after_receive limit count channel) ≡ shape channel
 shape-after_receive limit count channel = by_test (is_at_limit limit count)
   where
     by_test : (at_limit : Bool) →
-        shape (if at_limit then channel else record channel { submission = popped channel.submission }) ≡ shape channel
+        shape (if at_limit then channel else record channel { submission = after_pop channel.submission }) ≡ shape channel
     by_test true = refl
     by_test false = refl
 
@@ -83,7 +83,7 @@ pub shape-after_release : (channel : ChannelEntry) (pointer : ℕ) → shape (af
 shape-after_release channel pointer = by_test (is_full channel.completion)
   where
     by_test : (full : Bool) →
-        shape (if full then channel else record channel { completion = pushed channel.completion pointer }) ≡ shape channel
+        shape (if full then channel else record channel { completion = after_push channel.completion pointer }) ≡ shape channel
     by_test true = refl
     by_test false = refl
 

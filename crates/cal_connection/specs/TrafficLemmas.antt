@@ -10,7 +10,7 @@ use Rattle.cal_connection.specs.declared.errors.ZeroCopyReleaseError.{ZeroCopyRe
 use Rattle.cal_connection.specs.declared.errors.ZeroCopyReleaseError.TheVariants.{RetrieveBufferFull}
 use Rattle.cal_connection.specs.declared.settings.ConnectionSettings.{ConnectionSettings}
 use Rattle.cal_connection.specs.Settings.{IsClamped}
-use Rattle.cal_connection.specs.Channel.{new_channel, Queue, ChannelEntry, is_refused, is_at_limit, is_full, oldest, popped, pushed, displaced, with_entry, after_return, count_after_receive, count_after_release}
+use Rattle.cal_connection.specs.Channel.{new_channel, Queue, ChannelEntry, is_refused, is_at_limit, is_full, oldest, after_pop, after_push, overflow_of, with_entry, after_return, count_after_receive, count_after_release}
 use Rattle.cal_connection.specs.Traffic.{ChannelCall, sends, receives, releases, reclaims, Side, Traffic, no_traffic, Shows, side_after, traffic_after, traffic_after_receive, traffic_after_reclaim, MayCall, side_after_all, traffic_after_all, MayCallAll}
 
 -- a queue that is full holds something
@@ -38,10 +38,12 @@ longer sent value n within = omega (arith, length-append sent (value ∷ []))
 module _ (side : Side) (traffic : Traffic) (shows : Shows side traffic) where
   after_sends : (pointer : ℕ) (segments : List SegmentDetails) (refused full : Bool) →
       (full ≡ true → 1 ≤ length side.channel.submission.values) →
-      Shows (record side { channel = if refused then side.channel else record side.channel {
-        submission = pushed (if full then popped side.channel.submission else side.channel.submission) pointer;
-        segments = segments;
-      } })
+      Shows (record side {
+        channel = if refused then side.channel else record side.channel {
+          submission = after_push (if full then after_pop side.channel.submission else side.channel.submission) pointer;
+          segments = segments;
+        };
+      })
       (if refused then traffic else record traffic {
         sent = traffic.sent ++ pointer ∷ [];
         left = (if full then traffic.left + 1 else traffic.left);
@@ -101,7 +103,7 @@ module _ (side : Side) (traffic : Traffic) (shows : Shows side traffic) where
   after_releases : (pointer : ℕ) (full : Bool) → 0 < side.count →
       (let answer : Result (Unit {0}) ZeroCopyReleaseError = if full then Err RetrieveBufferFull else Ok tt in
       Shows (record {
-        channel = if full then side.channel else record side.channel { completion = pushed side.channel.completion pointer };
+        channel = if full then side.channel else record side.channel { completion = after_push side.channel.completion pointer };
         count = count_after_release answer side.count;
       }) (if full then traffic else record traffic { released = traffic.released ++ pointer ∷ [] }))
   after_releases pointer true some = shows
@@ -120,10 +122,12 @@ module _ (side : Side) (traffic : Traffic) (shows : Shows side traffic) where
       one_less same more = omega arith
 
   after_reclaims : (segments : List SegmentDetails) (values : List ℕ) → values ≡ side.channel.completion.values →
-      Shows (record side { channel = record side.channel {
-        completion = record side.channel.completion { values = drop 1 values };
-        segments = segments;
-      } }) (traffic_after_reclaim (slice_get values 0) traffic)
+      Shows (record side {
+        channel = record side.channel {
+          completion = record side.channel.completion { values = drop 1 values };
+          segments = segments;
+        };
+      }) (traffic_after_reclaim (slice_get values 0) traffic)
   after_reclaims segments [] is = record {
     room = shows.room;
     queued = shows.queued;
@@ -147,7 +151,7 @@ module _ (overflow : Bool) (limit : ℕ) where
       MayCall overflow limit side call → Shows (side_after overflow limit side call) (traffic_after overflow limit side traffic call)
   Shows-call side traffic (sends pointer sample_size) shows may =
       after_sends side traffic shows pointer
-      (after_return (with_entry side.channel.segments pointer sample_size) (displaced side.channel.submission))
+      (after_return (with_entry side.channel.segments pointer sample_size) (overflow_of side.channel.submission))
       (is_refused overflow side.channel) (is_full side.channel.submission)
       (full_some (length side.channel.submission.values) side.channel.submission.capacity shows.room)
   Shows-call side traffic receives shows may =

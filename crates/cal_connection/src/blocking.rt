@@ -7,10 +7,7 @@ use crate::errors::ZeroCopySendError;
 use std::sync::Wait;
 
 /// Whether an answer ends the turns under the strategy's action.
-fn ends_turns(
-    strategy: BackpressureToReceiverAction,
-    answer: BackpressureToReceiverAction,
-) -> bool
+fn ends_turns(strategy: BackpressureToReceiverAction, answer: BackpressureToReceiverAction) -> bool
     ensures value { result ≡ ends_turns strategy answer }
 {
     match answer {
@@ -54,11 +51,7 @@ fn ask<F: Fn(u64, u64) -> BackpressureToReceiverAction>(
 
 /// Asks the handler turn by turn until one of its answers ends the turns, and tells whether the send fails by it. Nobody else
 /// acts on the registry while it is lent, so the queue stays full and nothing else ends them.
-pub(crate) fn ask_until_end<
-    R: Wait,
-    F: Fn(u64, u64) -> BackpressureToReceiverAction,
-    C: Clock,
->(
+pub(crate) fn ask_until_end<R: Wait, F: Fn(u64, u64) -> BackpressureToReceiverAction, C: Clock>(
     rt: &R,
     handler: &F,
     strategy: BackpressureToReceiverAction,

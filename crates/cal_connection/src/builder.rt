@@ -104,7 +104,11 @@ impl<S: DynamicStorage<SharedManagementData>> Builder<S> {
     }
 
     /// Joins the connection that is found under the path with the port of this bit, and holds its entry.
-    fn join(&self, reg: &mut Registry<SharedManagementData>, bit: u8) -> Result<S, ZeroCopyCreationError>
+    fn join(
+        &self,
+        reg: &mut Registry<SharedManagementData>,
+        bit: u8,
+    ) -> Result<S, ZeroCopyCreationError>
         requires bit { IsPortBit bit }
         requires found { open_refusal S.checks_version reg.old (storage_plan self.now) ≡ None }
         requires fits { is_too_large self.now.options.settings ≡ false }

@@ -1,6 +1,7 @@
 //! A channel of a connection. Ported from `zero_copy_connection/common.rs` of iceoryx2-cal 0.9.3.
 ghost use Rattle.std.specs.Prelude.{◌≡◌, ◌<◌, ◌≤◌, ◌/◌, ◌^◌, not, length, IfOk, if◌then◌else◌};
 ghost use Rattle.cal_alloc.specs.PointerOffset.{offset_of, segment_of};
+ghost use Rattle.cal_queue.specs.FirstFrom.{IsFirstFrom};
 ghost use Rattle.cal_queue.specs.UsedChunks.{capacity_of};
 ghost use Rattle.cal_connection.specs.Channel.{segment_at, send_answer, after_send, receive_answer, after_receive, release_answer, after_release, reclaim_answer, after_reclaim, is_empty, is_full, is_used, with_word, new_channel};
 ghost use Rattle.cal_connection.specs.Settings.{completion_size, IsClamped};
@@ -86,6 +87,14 @@ impl Channel {
         ensures value { result ≡ is_used self.now.segments segment index }
     {
         self.segments[segment].used.contains(index)
+    }
+
+    /// The first sample of a segment, from this index on, that is in use.
+    pub(crate) fn next_used(&self, segment: usize, from: usize) -> Option<usize>
+        requires { segment < length self.now.segments }
+        ensures first { IsFirstFrom (is_used self.now.segments segment) from result }
+    {
+        self.segments[segment].used.next(from)
     }
 
     /// Whether no offset is queued.

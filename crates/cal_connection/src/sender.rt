@@ -5,8 +5,9 @@ ghost use Rattle.cal_storage.specs.Contents.{Has};
 ghost use Rattle.cal_storage.specs.Holding.{KeepsHandles};
 ghost use Rattle.cal_storage.specs.RegistryLends.{LendsValue};
 ghost use Rattle.cal_connection.specs.contracts.shared_management_data.SharedManagementData.{the_row};
+ghost use Rattle.cal_queue.specs.FirstFrom.{IsFirstFrom};
 ghost use Rattle.cal_connection.specs.Backpressure.{obstacle, AnswersObstacle};
-ghost use Rattle.cal_connection.specs.Channel.{send_answer, after_send, reclaim_answer, after_reclaim};
+ghost use Rattle.cal_connection.specs.Channel.{send_answer, after_send, reclaim_answer, after_reclaim, is_used};
 ghost use Rattle.cal_connection.specs.Words.{sender_bit};
 ghost use Rattle.cal_connection.specs.Port.{port_at, settings_at, channel_of, with_channel_of, is_in_use, IsWithin, IsSendable};
 
@@ -122,6 +123,25 @@ impl<S: DynamicStorage<SharedManagementData>> Model for Sender<S> {
 }
 
 impl<S: DynamicStorage<SharedManagementData>> Sender<S> {
+    /// The first sample of a segment, from this index on, that is in use on a channel; none where none is. It costs what the
+    /// used list's own call costs, which looks at whole words.
+    pub fn next_used(
+        &self,
+        reg: &Registry<SharedManagementData>,
+        channel_id: ChannelId,
+        segment_id: SegmentId,
+        from: usize,
+    ) -> Option<usize>
+        requires there { Has reg.now self.now.handle }
+        requires channel { channel_id < (settings_at reg.now self.now.handle).number_of_channels }
+        requires segment { segment_id < (settings_at reg.now self.now.handle).number_of_segments }
+        ensures first { IsFirstFrom (is_used (channel_of reg.now self.now.handle channel_id).segments segment_id) from result }
+    {
+        let segment = segment_id.value() as usize;
+        self.management_data(reg)
+            .next_used(channel_id.value(), segment, from)
+    }
+
     /// The segment of an index that counts the segments of one channel after another.
     pub fn segment_id_from_index(
         &self,

@@ -43,7 +43,10 @@ impl ConnectionSettings {
     }
 
     /// The first difference of these settings, which a connection has, from those that a builder asks for.
-    pub(crate) fn incompatibility(&self, asked: &ConnectionSettings) -> Option<ZeroCopyCreationError>
+    pub(crate) fn incompatibility(
+        &self,
+        asked: &ConnectionSettings,
+    ) -> Option<ZeroCopyCreationError>
         requires found { completion_size self.now < 2 ^ 63 }
         requires asked { completion_size asked.now < 2 ^ 63 }
         ensures value { result ≡ incompatibility self.now asked.now }

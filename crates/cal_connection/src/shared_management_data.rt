@@ -2,8 +2,9 @@
 //! 0.9.3.
 ghost use Rattle.std.specs.Prelude.{◌≡◌, ◌<◌, ◌≤◌, ◌^◌, Some, false, length, map, codes, IfOk, if◌then◌else◌};
 ghost use Rattle.cal_alloc.specs.PointerOffset.{offset_of, segment_of};
+ghost use Rattle.cal_queue.specs.FirstFrom.{IsFirstFrom};
 ghost use Rattle.cal_connection.specs.Backpressure.{obstacle};
-ghost use Rattle.cal_connection.specs.Channel.{send_answer, after_send, receive_answer, after_receive, release_answer, after_release, reclaim_answer, after_reclaim, is_empty, is_full, with_word};
+ghost use Rattle.cal_connection.specs.Channel.{send_answer, after_send, receive_answer, after_receive, release_answer, after_release, reclaim_answer, after_reclaim, is_empty, is_full, is_used, with_word};
 ghost use Rattle.cal_connection.specs.Closing.{without_bit, with_closed_channels, closed_channel};
 ghost use Rattle.cal_connection.specs.Creation.{join_refusal, with_bit};
 ghost use Rattle.cal_connection.specs.Port.{IsSoundPort, channel_at, with_channel, is_in_use, IsWithin, new_port};
@@ -149,6 +150,15 @@ impl SharedManagementData {
     {
         let index = ptr.offset() / sample_size;
         self.channels[channel].is_used(ptr.segment_id().value() as usize, index)
+    }
+
+    /// The first sample of a segment, from this index on, that is in use on a channel.
+    pub(crate) fn next_used(&self, channel: usize, segment: usize, from: usize) -> Option<usize>
+        requires channel { channel < self.now.settings.number_of_channels }
+        requires segment { segment < self.now.settings.number_of_segments }
+        ensures first { IsFirstFrom (is_used (channel_at self.now channel).segments segment) from result }
+    {
+        self.channels[channel].next_used(segment, from)
     }
 
     /// Takes the oldest queued offset of a channel, where fewer are borrowed than may be.

@@ -62,7 +62,11 @@ pub(crate) fn after_set(word: u64, state: u64) -> u64
 pub(crate) fn after_hint(word: u64, state: u64) -> u64
     ensures value { result ≡ after_hint word state }
 {
-    if word == state { with_hint(state) } else { word }
+    if word == state {
+        with_hint(state)
+    } else {
+        word
+    }
 }
 
 /// The word after the channel was to be closed.

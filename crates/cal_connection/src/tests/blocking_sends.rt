@@ -12,6 +12,7 @@ use cal_alloc::PointerOffset;
 use cal_names::{FileName, NamedConceptBuilder};
 use cal_storage::Registry;
 use cal_storage::dynamic_storage::process_local;
+use std::alloc::Global;
 use std::process::Abort;
 use std::sync::Wait;
 use std::test::Fail;
@@ -37,15 +38,15 @@ impl Clock for TwoTicks {
 }
 
 /// What a blocking send of a second offset answers where the queue holds one, and the handler and the clock are these.
-fn blocked<F: Fn(u64, u64) -> BackpressureToReceiverAction + Drop, C: Clock>(
-    rt: &HostRuntime,
+fn blocked<R: Abort + Wait, F: Fn(u64, u64) -> BackpressureToReceiverAction + Drop, C: Clock>(
+    rt: &R,
+    alloc: Global,
     handler: F,
     action: BackpressureToReceiverAction,
     clock: &mut C,
 ) -> Result<Result<Option<PointerOffset>, ZeroCopySendError>, Fail>
     requires { (retry ticks : ℕ) → retry < 2 ^ 64 → ticks < 2 ^ 64 → F.pre handler retry ticks }
 {
-    let alloc = rt.alloc();
     let name = FileName::new(b"connection").ok_or("a file name")?;
     let mut reg = Registry::new(alloc);
     let mut ends = connect::<Storage>(
@@ -54,13 +55,16 @@ fn blocked<F: Fn(u64, u64) -> BackpressureToReceiverAction + Drop, C: Clock>(
         Builder::new(&name).buffer_size(1),
         Builder::new(&name).buffer_size(1),
     )?;
-    assert_eq!(rt; send(rt, &mut reg, &mut ends, PointerOffset::new(0), 8, 0), Ok(None));
+    assert_eq!(rt;
+        send(rt, &mut reg, &mut ends, PointerOffset::new(0), 8, 0),
+        Ok(None)
+    );
     Ok(send_blocking(rt, &mut reg, &mut ends, handler, action, clock))
 }
 
 /// The blocking send of the second sample.
-fn send_blocking<F: Fn(u64, u64) -> BackpressureToReceiverAction + Drop, C: Clock>(
-    rt: &HostRuntime,
+fn send_blocking<R: Abort + Wait, F: Fn(u64, u64) -> BackpressureToReceiverAction + Drop, C: Clock>(
+    rt: &R,
     reg: &mut Registry<SharedManagementData>,
     ends: &mut (Sender<Storage>, Receiver<Storage>),
     handler: F,
@@ -86,6 +90,7 @@ fn send_blocking<F: Fn(u64, u64) -> BackpressureToReceiverAction + Drop, C: Cloc
 fn a_handler_can_let_the_send_fail(rt: HostRuntime) -> Result<(), Fail> {
     let answer = blocked(
         &rt,
+        rt.alloc(),
         |_, _| BackpressureToReceiverAction::DiscardPointerOffsetAndFail,
         BackpressureToReceiverAction::Retry,
         &mut FixedClock,
@@ -103,6 +108,7 @@ fn the_action_for_the_strategy_can_end_the_turns(rt: HostRuntime) -> Result<(), 
     ] {
         let answer = blocked(
             &rt,
+            rt.alloc(),
             |_, _| BackpressureToReceiverAction::FollowBackpressureyStrategy,
             action,
             &mut FixedClock,
@@ -116,6 +122,7 @@ fn the_action_for_the_strategy_can_end_the_turns(rt: HostRuntime) -> Result<(), 
 fn a_handler_can_retry_twice_and_give_up(rt: HostRuntime) -> Result<(), Fail> {
     let answer = blocked(
         &rt,
+        rt.alloc(),
         |retry, _| {
             if retry < 2 {
                 BackpressureToReceiverAction::Retry
@@ -149,6 +156,7 @@ fn a_handler_sees_the_elapsed_ticks(rt: HostRuntime) -> Result<(), Fail> {
         };
         let answer = blocked(
             &rt,
+            rt.alloc(),
             |_, ticks| answer_at(elapsed, ticks),
             BackpressureToReceiverAction::Retry,
             &mut clock,

@@ -27,7 +27,10 @@ fn each_difference_is_refused<S: DynamicStorage<SharedManagementData>>(
     let refused = Builder::<S>::new(&name)
         .buffer_size(5)
         .create_receiver(alloc, &mut reg);
-    assert_eq!(rt; refused.err(), Some(ZeroCopyCreationError::IncompatibleBufferSize));
+    assert_eq!(rt;
+        refused.err(),
+        Some(ZeroCopyCreationError::IncompatibleBufferSize)
+    );
     let refused = Builder::<S>::new(&name)
         .receiver_max_borrowed_samples_per_channel(5)
         .create_receiver(alloc, &mut reg);
@@ -115,8 +118,10 @@ fn too_large_a_buffer_is_out_of_range(rt: HostRuntime) -> Result<(), Fail> {
 fn a_name_that_fits_no_path_is_refused(rt: HostRuntime) -> Result<(), Fail> {
     let name = FileName::new(&[97; 250]).ok_or("a file name")?;
     let mut reg = Registry::new(rt.alloc());
-    let refused = Builder::<process_local::Storage<SharedManagementData>>::new(&name)
-        .create_sender(rt.alloc(), &mut reg);
+    let refused = Builder::<process_local::Storage<SharedManagementData>>::new(&name).create_sender(
+        rt.alloc(),
+        &mut reg,
+    );
     assert_eq!(rt; refused.err(), Some(ZeroCopyCreationError::PathTooLong));
     Ok(())
 }

@@ -20,11 +20,17 @@ fn both_ends_are_removed<S: DynamicStorage<SharedManagementData>>(
     let mut reg = Registry::new(alloc);
     let sender = Builder::<S>::new(&name).create_sender(alloc, &mut reg)?;
     let _receiver = Builder::<S>::new(&name).create_receiver(alloc, &mut reg)?;
-    assert_eq!(rt; Connection::<S>::remove_receiver(&mut reg, &name, &config), Ok(()));
+    assert_eq!(rt;
+        Connection::<S>::remove_receiver(&mut reg, &name, &config),
+        Ok(())
+    );
     assert!(rt; sender.number_of_channels(&reg) > 0);
     assert!(rt; sender.is_channel_closed(&reg, ChannelId::new(0)));
     assert!(rt; !sender.is_connected(&reg));
-    assert_eq!(rt; Connection::<S>::remove_sender(&mut reg, &name, &config), Ok(()));
+    assert_eq!(rt;
+        Connection::<S>::remove_sender(&mut reg, &name, &config),
+        Ok(())
+    );
     assert_eq!(rt; reg.len(), 0);
     assert_eq!(rt;
         Connection::<S>::remove_sender(&mut reg, &name, &config),
@@ -45,19 +51,25 @@ fn an_entry_of_another_version_is_left(rt: HostRuntime) -> Result<(), Fail> {
     let config = Configuration::<file::Storage<SharedManagementData>>::default();
     let path = config.path_for(&name)?;
     let mut reg = Registry::new(rt.alloc());
-    let _sender = Builder::<file::Storage<SharedManagementData>>::new(&name)
-        .create_sender(rt.alloc(), &mut reg)?;
+    let _sender = Builder::<file::Storage<SharedManagementData>>::new(&name).create_sender(
+        rt.alloc(),
+        &mut reg,
+    )?;
     assert!(rt; reg.set_version(&path, 9002));
-    let refused = Builder::<file::Storage<SharedManagementData>>::new(&name)
-        .create_receiver(rt.alloc(), &mut reg);
+    let refused = Builder::<file::Storage<SharedManagementData>>::new(&name).create_receiver(
+        rt.alloc(),
+        &mut reg,
+    );
     assert_eq!(rt; refused.err(), Some(ZeroCopyCreationError::VersionMismatch));
     let removed = Connection::<file::Storage<SharedManagementData>>::remove_receiver(
         &mut reg, &name, &config,
     );
     assert_eq!(rt; removed, Err(ZeroCopyPortRemoveError::VersionMismatch));
     assert!(rt; reg.set_version(&path, 0));
-    let refused = Builder::<file::Storage<SharedManagementData>>::new(&name)
-        .create_receiver(rt.alloc(), &mut reg);
+    let refused = Builder::<file::Storage<SharedManagementData>>::new(&name).create_receiver(
+        rt.alloc(),
+        &mut reg,
+    );
     assert_eq!(rt;
         refused.err(),
         Some(ZeroCopyCreationError::InitializationNotYetFinalized)

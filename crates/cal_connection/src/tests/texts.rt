@@ -25,14 +25,16 @@ fn each_text_begins_with_the_name_of_its_type(rt: HostRuntime) -> Result<(), Fai
         receiving.as_str(),
         "ZeroCopyReceiveError::ReceiveWouldExceedMaxBorrowValue"
     );
-    let reclaiming =
-        ZeroCopyReclaimError::ReceiverReturnedCorruptedPointerOffset.to_string(alloc)?;
+    let reclaiming = ZeroCopyReclaimError::ReceiverReturnedCorruptedPointerOffset.to_string(alloc)?;
     assert_eq!(rt;
         reclaiming.as_str(),
         "ZeroCopyReclaimError::ReceiverReturnedCorruptedPointerOffset"
     );
     let releasing = ZeroCopyReleaseError::RetrieveBufferFull.to_string(alloc)?;
-    assert_eq!(rt; releasing.as_str(), "ZeroCopyReleaseError::RetrieveBufferFull");
+    assert_eq!(rt;
+        releasing.as_str(),
+        "ZeroCopyReleaseError::RetrieveBufferFull"
+    );
     let state = ChannelStateNewError::ValueOutOfBounds.to_string(alloc)?;
     assert_eq!(rt; state.as_str(), "ChannelStateNewError::ValueOutOfBounds");
     Ok(())

@@ -68,8 +68,14 @@ fn an_overflow_gives_the_oldest_back<S: DynamicStorage<SharedManagementData>>(
     let first = PointerOffset::new(0);
     let second = PointerOffset::new(8);
     assert_eq!(rt; send(rt, &mut reg, &mut ends, first, 8, 0), Ok(None));
-    assert_eq!(rt; send(rt, &mut reg, &mut ends, second, 8, 0), Ok(Some(first)));
-    assert_eq!(rt; send(rt, &mut reg, &mut ends, first, 8, 0), Ok(Some(second)));
+    assert_eq!(rt;
+        send(rt, &mut reg, &mut ends, second, 8, 0),
+        Ok(Some(first))
+    );
+    assert_eq!(rt;
+        send(rt, &mut reg, &mut ends, first, 8, 0),
+        Ok(Some(second))
+    );
     assert_eq!(rt; receive(rt, &mut reg, &mut ends, 0), Ok(Some(first)));
     assert_eq!(rt; receive(rt, &mut reg, &mut ends, 0), Ok(None));
     Ok(())

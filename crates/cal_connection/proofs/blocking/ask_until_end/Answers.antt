@@ -5,9 +5,11 @@ use Rattle.cal_connection.proofs.blocking.ask_until_end.Goals as goal
 pub returns-then-ends_turns : goal.returns-then-ends_turns
 returns-then-ends_turns g c = record {
   ended =
-      c.loop.invariant c.if-retries_until_delivered.false (c.ask-answer.result ∷ []) c.sets_fail_mark.result
-      ((c.saturating_sub-ticks.result, omega arith, c.ask-answer.ensures.allowed),
-      sym c.ends_turns.ensures.value ∙ c.if-ends_turns.true, c.sets_fail_mark.ensures.value);
+      c.loop.invariant c.if-retries_until_delivered.false (c.ask-answer.result ∷ []) c.sets_fail_mark.result (
+        (c.saturating_sub-ticks.result, omega arith, c.ask-answer.ensures.allowed),
+        sym c.ends_turns.ensures.value ∙ c.if-ends_turns.true,
+        c.sets_fail_mark.ensures.value,
+      );
 }
 
 pub loop-preserved : goal.loop-preserved

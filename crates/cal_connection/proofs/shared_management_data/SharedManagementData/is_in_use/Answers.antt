@@ -49,6 +49,6 @@ returns c =
     channel_at-found port c.self.invariant c.args.channel c.index.result.now within.there c.index.ensures in
     record {
       value = subst (λ (p : PortEntry). c.is_used.result ≡ is_in_use p c.args.channel c.args.ptr c.args.sample_size)
-      c.self.view_is
-      (rw (c.is_used.ensures.value, is, c.offset.ensures, c.value.ensures, c.segment_id.ensures) refl);
+          c.self.view_is
+          (rw (c.is_used.ensures.value, is, c.offset.ensures, c.value.ensures, c.segment_id.ensures) refl);
     }
