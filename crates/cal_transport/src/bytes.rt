@@ -10,6 +10,7 @@ use std::marker::Model;
 /// A row of bytes of its own, which contracts see as a list.
 #[derive(Debug, Drop)]
 pub struct Bytes {
+    /// The bytes.
     items: Vec<u8>,
 }
 

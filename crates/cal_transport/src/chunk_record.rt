@@ -3,20 +3,27 @@
 ghost use Rattle.std.specs.Prelude.{◌≡◌, ◌<◌, slice_get, length, Some, MatchOption};
 ghost use Rattle.cal_transport.specs.ChunkRecord.{AreRising, HasNoRecord, IsFound, LeadsToRecord};
 
-/// A chunk's record. Its name is the place of the loan that made it, so names rise.
+/// A chunk's record. Its name is the number of the loan that made it, so names rise.
 #[derive(Clone, Copy, Debug, PartialEq, Eq)]
 pub(crate) struct ChunkRecord {
+    /// The number of the loan that made the chunk.
     pub(crate) name: usize,
+    /// The index of its bucket, below the number of buckets.
     pub(crate) bucket: usize,
+    /// Whether the sender has it still: it wasn't discarded.
     pub(crate) loaned: bool,
+    /// Whether it was ever sent; it isn't written any more then.
     pub(crate) sent: bool,
+    /// Whether the receiver has it; it is in transit then.
     pub(crate) borrowed: bool,
 }
 
 /// A record and the index where it stands.
 #[derive(Clone, Copy)]
 pub(crate) struct Found {
+    /// Where the record stands among all records.
     pub(crate) index: usize,
+    /// The record.
     pub(crate) entry: ChunkRecord,
 }
 

@@ -24,19 +24,23 @@ use std::marker::Model;
 /// One segment of memory, and one channel from a sender to a receiver.
 #[derive(Debug, Drop)]
 pub(crate) struct Transport {
+    /// The settings, with zeros counted as ones.
     settings: Settings,
+    /// Which buckets are free. A bucket is used while its chunk is live.
     pool: PoolAllocator,
-    // The segment's bytes.
+    /// The segment's bytes, as many as the pool's buckets have.
     memory: Vec<u8>,
-    // The offsets of queued chunks, and of those given back.
+    /// The offsets of queued chunks, the oldest first.
     submissions: SafelyOverflowingIndexQueue,
+    /// The offsets of chunks that were given back and not reclaimed, the oldest first.
     completions: IndexQueue,
-    // The buckets of chunks in transit.
+    /// The buckets of chunks in transit.
     used: UsedChunkList,
-    // How many chunks the receiver has borrowed.
+    /// How many chunks the receiver has borrowed.
     borrowed: usize,
+    /// A record for each accepted loan, in the order of their names; room for one a command is reserved.
     records: Vec<ChunkRecord>,
-    // For each used bucket, the index of its chunk's entry.
+    /// For each used bucket, the index of its chunk's entry.
     record_indices: Vec<usize>,
 }
 

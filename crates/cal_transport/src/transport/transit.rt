@@ -36,7 +36,8 @@ impl Transport {
     }
 }
 
-/// Appends a reply for each used bucket below a limit. It goes from one used bucket to the next, by the words of the list.
+/// Appends a reply for each used bucket below a limit. It goes from one used bucket to the next, by the words of the
+/// list.
 fn append_transit(
     used: &UsedChunkList,
     records: &[ChunkRecord],

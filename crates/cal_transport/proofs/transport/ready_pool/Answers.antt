@@ -6,7 +6,8 @@ new_uninit-pool-requires c =
     record {
       fits = pool_fits_settings c.args.settings.now c.args.memory_size c.unwrap-bucket_layout.result
           c.requires.made c.requires.payload
-          (made_value _ c.new.result _ c.unwrap-bucket_layout.result c.new.ensures.value c.unwrap-bucket_layout.ensures);
+          (made_value _ c.new.result _ c.unwrap-bucket_layout.result c.new.ensures.value
+          c.unwrap-bucket_layout.ensures);
     }
 
 pub returns-in-Ok : goal.returns-in-Ok

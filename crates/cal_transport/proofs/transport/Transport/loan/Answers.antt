@@ -50,7 +50,8 @@ returns-clause-step c = subst
       pool = c.allocate.new.self;
       memory = c.clear.new.memory.items;
       records = c.push_reserved.new.self.items;
-      record_indices = set c.self.inside.record_indices.items (c.offset-place.result / c.bucket_size.result) c.len.result;
+      record_indices =
+          set c.self.inside.record_indices.items (c.offset-place.result / c.bucket_size.result) c.len.result;
       room = (vec_capacity c.push_reserved.new.self - vec_len c.push_reserved.new.self);
     })) c.self.view_is
     (loaned_by (parts_of c.self.inside) c.args.name c.args.size c.args.alignment c.in-Some.layout c.in-Ok.pointer

@@ -28,7 +28,8 @@ record_at-found-requires c = record {
 pub remove-requires : goal.remove-requires
 remove-requires c = record {
   below =
-      (reclaim_spends (parts_of c.self.inside) c.self.invariant.0 c.in-Some.value (c.offset.result / c.bucket_size.result)
+      (reclaim_spends (parts_of c.self.inside) c.self.invariant.0 c.in-Some.value
+      (c.offset.result / c.bucket_size.result)
       c.self.invariant.1 c.in-Some.ensures.oldest
       (ap (λ n. c.offset.result / n) c.bucket_size.ensures.value ∙ ap
       (λ n. n / c.self.inside.pool.buckets.size)
@@ -39,7 +40,8 @@ pub free_unless_live-requires : goal.free_unless_live-requires
 free_unless_live-requires c =
     record {
       used = subst (IsUsedBucket c.self.inside.pool) (sym c.from_value-pointer.ensures.value)
-          (reclaim_spends (parts_of c.self.inside) c.self.invariant.0 c.in-Some.value (c.offset.result / c.bucket_size.result)
+          (reclaim_spends (parts_of c.self.inside) c.self.invariant.0 c.in-Some.value
+          (c.offset.result / c.bucket_size.result)
           c.self.invariant.1 c.in-Some.ensures.oldest
           (ap (λ n. c.offset.result / n) c.bucket_size.ensures.value ∙ ap
           (λ n. n / c.self.inside.pool.buckets.size)
