@@ -1,5 +1,5 @@
-//! Laws of what calls leave on a channel. Each is a theorem about the definitions that the contracts of the calls cite, and
-//! its function does nothing.
+//! Laws of what calls leave on a channel. Each is a theorem about the definitions that the contracts of the calls cite,
+//! and its function does nothing.
 ghost use Rattle.std.specs.Prelude.{◌≡◌, ◌≢◌, ℕ, Bool, List};
 ghost use Rattle.cal_connection.specs.Channel.{ChannelEntry, new_channel};
 ghost use Rattle.cal_connection.specs.Port.{PortEntry, channel_at, with_channel};
@@ -7,8 +7,8 @@ ghost use Rattle.cal_connection.specs.Settings.{IsClamped};
 ghost use Rattle.cal_connection.specs.Traffic.{ChannelCall, Side, Traffic, Shows, no_traffic, side_after_all, traffic_after_all, MayCallAll};
 ghost use Rattle.cal_connection.specs.declared.settings.ConnectionSettings.{ConnectionSettings};
 
-/// A channel shows what went over it, over any calls: the queue holds what was sent and hasn't left it, as many are borrowed
-/// as were received and not released, and the completion queue holds what was released and not reclaimed.
+/// A channel shows what went over it, over any calls: the queue holds what was sent and hasn't left it, as many are
+/// borrowed as were received and not released, and the completion queue holds what was released and not reclaimed.
 pub fn a_channel_shows_its_traffic()
     ensures new { (settings : ConnectionSettings) (word : ℕ) → IsClamped settings →
         Shows (record { channel = new_channel settings word; count = 0 }) no_traffic }
