@@ -5,17 +5,17 @@ use Rattle.cal_storage.specs.declared.Handle.{Handle}
 use Rattle.cal_storage.specs.Holding.{KeepsHandles}
 use Rattle.cal_storage.specs.HoldingLemmas.{KeepsHandles-is, KeepsHandles-with_value}
 use Rattle.cal_storage.specs.ValueLemmas.{with_value-present, value_of-with_value-same}
-use Rattle.cal_shm.specs.Calls.{ChangesAllocator, OfSegment}
+use Rattle.cal_shm.specs.Calls.{ChangesAllocator, OfValue}
 use Rattle.cal_shm.specs.Segment.{Segment, with_allocator}
 
 module _ {A : Type 0} (old : Contents (Segment A)) (id : ℕ) (segment : Segment A)
     (there : Some segment ≡ value_of old id) where
   -- what is a fact of the segment that was lent is one of the segment of the id
-  pub of_segment : (fact : Segment A → Type 0) → fact segment → OfSegment old id fact
+  pub of_segment : (fact : Segment A → Type 0) → fact segment → OfValue old id fact
   of_segment fact is = subst (λ found. IsSomeAnd found fact) there is
 
   -- and the other way round
-  pub of_lent : (fact : Segment A → Type 0) → OfSegment old id fact → fact segment
+  pub of_lent : (fact : Segment A → Type 0) → OfValue old id fact → fact segment
   of_lent fact is = subst (λ found. IsSomeAnd found fact) (sym there) is
 
   module _ (left : Segment A) (new : Contents (Segment A)) (is : new ≡ with_value old id left) where
@@ -39,7 +39,7 @@ module _ {A : Type 0} (old : Contents (Segment A)) (id : ℕ) (segment : Segment
 
     -- a fact of what was left is one of the segment of the id
     pub of_left : (handle : Handle) → handle.id ≡ id → Has old handle → (fact : Segment A → Type 0) → fact left →
-        OfSegment new id fact
+        OfValue new id fact
     of_left handle same has fact holds =
-        subst (λ contents. OfSegment contents id fact) (sym is)
+        subst (λ contents. OfValue contents id fact) (sym is)
         (subst (λ found. IsSomeAnd found fact) (sym (value_of-with_value-same old id left handle same has)) holds)

@@ -20,10 +20,9 @@ module _ (A C : RattleType) (calls : allocator.Ghosts A.Denot C.Denot) (shown : 
   LendsBytes segment offset bytes =
       Lends segment_row (Array u8 0) segment bytes (λ last. with_bytes segment.now offset last)
 
-  abbrev registry_row : RattleType
-  registry_row = registry.the_row segment_row
-
-  -- of a registry: those of the segment of an id
-  abbrev pub LendsBytesOf : MutBor registry_row.Denot → ℕ → ℕ → MutBor (List ℕ) → Fml
+module _ (T : RattleType) (with_bytes : T.Denot → ℕ → List ℕ → T.Denot) where
+  -- of a registry: those of the value of an id
+  abbrev pub LendsBytesOf : MutBor (registry.the_row T).Denot → ℕ → ℕ → MutBor (List ℕ) → Fml
   LendsBytesOf contents id offset bytes =
-      Lends registry_row (Array u8 0) contents bytes (λ last. with_written contents.now id offset last)
+      Lends (registry.the_row T) (Array u8 0) contents bytes
+      (λ last. with_written with_bytes contents.now id offset last)

@@ -5,3 +5,4 @@ pub mod Plan
 pub mod Refusals
 pub mod Segment
 pub mod TypeName
+pub mod WrittenLemmas

@@ -4,11 +4,12 @@ ghost use Rattle.std.specs.Result.{result_err};
 ghost use Rattle.std.specs.Borrow.{sem};
 ghost use Rattle.cal_alloc.specs.Pool.{IsUsedBucket, FreesBucket};
 ghost use Rattle.cal_alloc.specs.PointerOffset.{offset_of};
-ghost use Rattle.cal_shm.specs.Calls.{IsWithin, IsChunkWithin};
+ghost use Rattle.cal_shm.specs.Calls.{IsInPayload, IsChunkWithin};
 ghost use Rattle.cal_shm.specs.Lends.{LendsBytes};
-ghost use Rattle.cal_shm.specs.Segment.{with_allocator};
+ghost use Rattle.cal_shm.specs.Segment.{with_allocator, with_bytes};
 ghost use Rattle.cal_shm.specs.TypeName.{segment_type_name};
 
+use crate::payload::Payload;
 use cal_alloc::{Layout, PointerOffset, PoolAllocator, ShmAllocationError, ShmAllocator};
 use cal_names::{NamedType, TypeName};
 use std::marker::Model;
@@ -32,6 +33,12 @@ impl<A: ShmAllocator> Model for AllocatorDetails<A> {
     ghost view = { λ d. record { allocator = d.allocator; payload = d.payload.items } };
 
     ghost invariant = { λ d. IsServed (A.properties d.allocator) (length d.payload.items) };
+}
+
+impl<A: ShmAllocator> Payload for AllocatorDetails<A> {
+    ghost payload = { λ segment. segment.payload };
+
+    ghost with_bytes = { with_bytes };
 }
 
 impl<A: ShmAllocator> NamedType for AllocatorDetails<A> {
@@ -103,7 +110,7 @@ impl<A: ShmAllocator> AllocatorDetails<A> {
 
     /// That many bytes of the payload, from an offset on.
     pub(crate) fn bytes(&self, offset: PointerOffset, count: usize) -> &[u8]
-        requires { IsWithin self.now (offset_of offset) count }
+        requires { IsInPayload self.now.payload (offset_of offset) count }
         ensures { result.now ≡ slice_range self.now.payload (offset_of offset) (offset_of offset + count) }
     {
         let first = offset.offset();
@@ -111,7 +118,7 @@ impl<A: ShmAllocator> AllocatorDetails<A> {
     }
     /// That many bytes of the payload, from an offset on, to be written.
     pub(crate) fn bytes_mut(&mut self, offset: PointerOffset, count: usize) -> &mut [u8]
-        requires { IsWithin self.old (offset_of offset) count }
+        requires { IsInPayload self.old.payload (offset_of offset) count }
         ensures* writes_back { sem 𝓛 (LendsBytes A.row A.Configuration.row A.ShmAllocator.own A.Debug
             A.Configuration.Default A.Configuration.Debug self.entry (offset_of offset) result) }
         ensures value { result.now ≡ slice_range self.old.payload (offset_of offset) (offset_of offset + count) }

@@ -79,10 +79,7 @@ impl<A: ShmAllocator, S: DynamicStorage<AllocatorDetails<A>>> Builder<A, S> {
     }
 
     /// Whether the path of the name fits and stands for nothing.
-    fn check_name(
-        &self,
-        reg: &Registry<AllocatorDetails<A>>,
-    ) -> Result<(), SharedMemoryCreateError>
+    fn check_name(&self, reg: &Registry<AllocatorDetails<A>>) -> Result<(), SharedMemoryCreateError>
         ensures { result_err result ≡ name_refusal reg.now
             (settings_of self.now.config.parts S.Configuration.initial.type_name) self.now.name }
     {

@@ -13,6 +13,7 @@ mod errors;
 pub mod file;
 pub mod memory;
 mod options;
+mod payload;
 pub mod process_local;
 pub mod shared_memory;
 mod shm_pointer;
@@ -20,6 +21,7 @@ mod shm_pointer;
 pub use allocator_details::AllocatorDetails;
 pub use errors::{SharedMemoryCreateError, SharedMemoryOpenError};
 pub use options::SharedMemoryOptions;
+pub use payload::{Payload, PayloadHolder};
 pub use shared_memory::{SharedMemory, SharedMemoryBuilder, SharedMemoryForPoolAllocator};
 pub use shm_pointer::ShmPointer;
 

@@ -6,6 +6,7 @@ ghost use Rattle.cal_shm.specs.Segment.{Segment};
 use crate::allocator_details::AllocatorDetails;
 use crate::builder::Builder;
 use crate::configuration::Configuration;
+use crate::payload::PayloadHolder;
 use crate::shared_memory::{SharedMemory, SharedMemoryForPoolAllocator};
 use crate::shm_pointer::ShmPointer;
 use cal_alloc::{Layout, PointerOffset, PoolAllocator, ShmAllocationError, ShmAllocator};
@@ -95,10 +96,22 @@ impl<A: ShmAllocator, S: DynamicStorage<AllocatorDetails<A>>> NamedConceptMgmt f
     ghost shown_goes = { S.shown_goes };
 }
 
+impl<A: ShmAllocator, S: DynamicStorage<AllocatorDetails<A>>> PayloadHolder<AllocatorDetails<A>>
+    for Memory<A, S> {
+    ghost handle = { λ m. S.handle m.storage };
+
+    fn bytes_mut<'r>(
+        reg: &'r mut Registry<AllocatorDetails<A>>,
+        memory: &Self,
+        offset: PointerOffset,
+        count: usize,
+    ) -> &'r mut [u8] {
+        S::get_mut(reg, &memory.storage).bytes_mut(offset, count)
+    }
+}
+
 impl<A: ShmAllocator, S: DynamicStorage<AllocatorDetails<A>>> SharedMemory<A> for Memory<A, S> {
     type Builder = Builder<A, S>;
-
-    ghost handle = { λ m. S.handle m.storage };
 
     ghost checks_version = { S.checks_version };
 
@@ -147,15 +160,6 @@ impl<A: ShmAllocator, S: DynamicStorage<AllocatorDetails<A>>> SharedMemory<A> fo
         count: usize,
     ) -> &'r [u8] {
         self.storage.get(reg).bytes(offset, count)
-    }
-
-    fn bytes_mut<'r>(
-        reg: &'r mut Registry<AllocatorDetails<A>>,
-        memory: &Self,
-        offset: PointerOffset,
-        count: usize,
-    ) -> &'r mut [u8] {
-        S::get_mut(reg, &memory.storage).bytes_mut(offset, count)
     }
 
     fn does_support_persistency() -> bool {

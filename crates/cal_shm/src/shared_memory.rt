@@ -2,7 +2,6 @@
 //!
 //! Ported from `shared_memory/mod.rs` of iceoryx2-cal 0.9.3.
 ghost use Rattle.std.specs.Prelude.{◌≡◌, ◌+◌, ℕ, Bool, true, false, Option, Some, None, IfSome, IfOk, IfErr, OnOk, OnErr, ◌⊎◌, codes, length, slice_range};
-ghost use Rattle.std.specs.Borrow.{sem};
 ghost use Rattle.std.specs.Map.{keys_of};
 ghost use Rattle.std.specs.Result.{result_err};
 ghost use Rattle.cal_alloc.specs.Pool.{IsUsedBucket, FreesBucket};
@@ -10,13 +9,11 @@ ghost use Rattle.cal_alloc.specs.PointerOffset.{offset_of};
 ghost use Rattle.cal_names.specs.ConceptSettings.{extracted_name_at};
 ghost use Rattle.cal_names.specs.FilePath.{IsFilePath};
 ghost use Rattle.cal_storage.specs.Contents.{Contents, Has, id_at, new_handle, found_handle, after_creation, after_opening, after_close};
-ghost use Rattle.cal_storage.specs.declared.Handle.{Handle};
 ghost use Rattle.cal_storage.specs.Holding.{Holds, IsNamed, KeepsHandles, KeepsOtherHandles, LeavesSharers, JoinsHandles};
 ghost use Rattle.cal_storage.specs.Managing.{goes_with};
 ghost use Rattle.cal_storage.specs.Refusals.{finished_version, has_name, after_name_removal};
 ghost use Rattle.cal_storage.specs.Soundness.{IsSound};
-ghost use Rattle.cal_shm.specs.Calls.{ChangesAllocator, OfSegment, IsWithin, IsChunkWithin};
-ghost use Rattle.cal_shm.specs.Lends.{LendsBytesOf};
+ghost use Rattle.cal_shm.specs.Calls.{ChangesAllocator, OfValue, IsInPayload, IsChunkWithin};
 ghost use Rattle.cal_shm.specs.Plan.{path_of, default_options};
 ghost use Rattle.cal_shm.specs.Refusals.{memory_alignment, create_refusal, open_refusal};
 ghost use Rattle.cal_shm.specs.Segment.{Segment, new_segment};
@@ -24,6 +21,7 @@ ghost use Rattle.cal_shm.specs.Segment.{Segment, new_segment};
 use crate::allocator_details::AllocatorDetails;
 use crate::errors::{SharedMemoryCreateError, SharedMemoryOpenError};
 use crate::options::SharedMemoryOptions;
+use crate::payload::PayloadHolder;
 use crate::shm_pointer::ShmPointer;
 use cal_alloc::{Layout, PointerOffset, PoolAllocator, ShmAllocationError, ShmAllocator};
 use cal_names::{FileName, NamedConcept, NamedConceptBuilder, NamedConceptMgmt};
@@ -58,19 +56,16 @@ pub trait SharedMemoryBuilder<A: ShmAllocator, Shm: SharedMemory<A>>: Debug
         reg: &mut Registry<AllocatorDetails<A>>,
         allocator_config: &A::Configuration,
     ) -> Result<Shm, SharedMemoryCreateError>
-        ensures refused {
-            let size = (Self.plan self).options.size in
+        ensures refused { let size = (Self.plan self).options.size in
             let allocator = A.new_uninit memory_alignment size allocator_config.now in
             IfSome (create_refusal (A.fits size allocator_config.now) (A.properties allocator).max_alignment
             reg.old (Self.plan self)) (λ error. result ≡ Err error) }
-        ensures error {
-            let size = (Self.plan self).options.size in
+        ensures error { let size = (Self.plan self).options.size in
             let allocator = A.new_uninit memory_alignment size allocator_config.now in
             IfErr result (λ error. (create_refusal (A.fits size allocator_config.now)
             (A.properties allocator).max_alignment reg.old (Self.plan self) ≡ Some error)
             ⊎ (error ≡ SharedMemoryCreateError.NoMemory)) }
-        ensures created {
-            let size = (Self.plan self).options.size in
+        ensures created { let size = (Self.plan self).options.size in
             let allocator = A.after_init (A.new_uninit memory_alignment size allocator_config.now) in
             OnOk result (reg.new ≡ after_creation reg.old (path_of (Self.plan self)) (new_segment allocator size)
             finished_version) }
@@ -111,24 +106,22 @@ pub trait SharedMemoryBuilder<A: ShmAllocator, Shm: SharedMemory<A>>: Debug
 pub trait SharedMemory<A: ShmAllocator>: Debug
     + Drop
     + NamedConcept
-    + NamedConceptMgmt<Names = Registry<AllocatorDetails<A>>> {
+    + NamedConceptMgmt<Names = Registry<AllocatorDetails<A>>>
+    + PayloadHolder<AllocatorDetails<A>> {
     type Builder: SharedMemoryBuilder<A, Self>;
-
-    // The entry that the segment's handle holds, and whether it owns its name.
-    ghost handle: { Self → Handle };
 
     // Whether an opening looks at the version of an entry.
     ghost checks_version: { Bool };
 
     /// The size of the payload in bytes, at most 2^56.
     fn size(&self, reg: &Registry<AllocatorDetails<A>>) -> usize
-        requires { Has reg.now (handle self.now) }
-        ensures size { OfSegment reg.now (handle self.now).id (λ segment. result ≡ length segment.payload) };
+        requires { Has reg.now (Self.handle self.now) }
+        ensures size { OfValue reg.now (Self.handle self.now).id (λ segment. result ≡ length segment.payload) };
 
     /// The greatest alignment that a chunk can have, in bytes.
     fn max_alignment(&self, reg: &Registry<AllocatorDetails<A>>) -> usize
-        requires { Has reg.now (handle self.now) }
-        ensures alignment { OfSegment reg.now (handle self.now).id (λ segment.
+        requires { Has reg.now (Self.handle self.now) }
+        ensures alignment { OfValue reg.now (Self.handle self.now).id (λ segment.
             result ≡ (A.properties segment.allocator).max_alignment) };
 
     /// The offset of the payload's first byte.
@@ -137,8 +130,8 @@ pub trait SharedMemory<A: ShmAllocator>: Debug
 
     /// The allocator.
     fn allocator<'r>(&self, reg: &'r Registry<AllocatorDetails<A>>) -> &'r A
-        requires { Has reg.now (handle self.now) }
-        ensures allocator { OfSegment reg.now (handle self.now).id (λ segment. result.now ≡ segment.allocator) };
+        requires { Has reg.now (Self.handle self.now) }
+        ensures allocator { OfValue reg.now (Self.handle self.now).id (λ segment. result.now ≡ segment.allocator) };
 
     /// Hands out a chunk of that layout, which lies within the payload. After an error everything is as before. Takes no
     /// memory.
@@ -147,14 +140,14 @@ pub trait SharedMemory<A: ShmAllocator>: Debug
         reg: &mut Registry<AllocatorDetails<A>>,
         layout: Layout,
     ) -> Result<ShmPointer, ShmAllocationError>
-        requires { Has reg.old (handle self.now) }
-        ensures refused { OfSegment reg.old (handle self.now).id (λ segment.
+        requires { Has reg.old (Self.handle self.now) }
+        ensures refused { OfValue reg.old (Self.handle self.now).id (λ segment.
             result_err result ≡ A.refusal segment.allocator layout) }
-        ensures given { IfOk result (λ pointer. ChangesAllocator reg.old (handle self.now).id
+        ensures given { IfOk result (λ pointer. ChangesAllocator reg.old (Self.handle self.now).id
             (λ before after. A.Allocates before layout pointer.offset after) reg.new) }
-        ensures allocated { IfOk result (λ pointer. OfSegment reg.new (handle self.now).id (λ segment.
+        ensures allocated { IfOk result (λ pointer. OfValue reg.new (Self.handle self.now).id (λ segment.
             A.IsAllocated segment.allocator pointer.offset)) }
-        ensures within { IfOk result (λ pointer. OfSegment reg.old (handle self.now).id (λ segment.
+        ensures within { IfOk result (λ pointer. OfValue reg.old (Self.handle self.now).id (λ segment.
             IsChunkWithin A.properties segment layout pointer.offset)) }
         ensures keeps { KeepsHandles reg.old reg.new }
         ensures unchanged { OnErr result (reg.new ≡ reg.old) };
@@ -166,10 +159,10 @@ pub trait SharedMemory<A: ShmAllocator>: Debug
         offset: PointerOffset,
         layout: Layout,
     )
-        requires there { Has reg.old (handle self.now) }
-        requires allocated { OfSegment reg.old (handle self.now).id (λ segment.
+        requires there { Has reg.old (Self.handle self.now) }
+        requires allocated { OfValue reg.old (Self.handle self.now).id (λ segment.
             A.IsAllocated segment.allocator offset) }
-        ensures freed { ChangesAllocator reg.old (handle self.now).id
+        ensures freed { ChangesAllocator reg.old (Self.handle self.now).id
             (λ before after. A.Deallocates before offset after) reg.new }
         ensures keeps { KeepsHandles reg.old reg.new };
 
@@ -180,23 +173,9 @@ pub trait SharedMemory<A: ShmAllocator>: Debug
         offset: PointerOffset,
         count: usize,
     ) -> &'r [u8]
-        requires there { Has reg.now (handle self.now) }
-        requires within { OfSegment reg.now (handle self.now).id (λ segment. IsWithin segment (offset_of offset) count) }
-        ensures bytes { OfSegment reg.now (handle self.now).id (λ segment.
-            result.now ≡ slice_range segment.payload (offset_of offset) (offset_of offset + count)) };
-
-    /// That many bytes of the payload, from an offset on, to be written. The registry comes first, since it is what lends.
-    fn bytes_mut<'r>(
-        reg: &'r mut Registry<AllocatorDetails<A>>,
-        memory: &Self,
-        offset: PointerOffset,
-        count: usize,
-    ) -> &'r mut [u8]
-        requires there { Has reg.old (handle memory.now) }
-        requires within { OfSegment reg.old (handle memory.now).id (λ segment. IsWithin segment (offset_of offset) count) }
-        ensures* writes_back { sem 𝓛 (LendsBytesOf A.row A.Configuration.row A.ShmAllocator.own A.Debug
-            A.Configuration.Default A.Configuration.Debug reg.entry (handle memory.now).id (offset_of offset) result) }
-        ensures bytes { OfSegment reg.old (handle memory.now).id (λ segment.
+        requires there { Has reg.now (Self.handle self.now) }
+        requires within { OfValue reg.now (Self.handle self.now).id (λ segment. IsInPayload segment.payload (offset_of offset) count) }
+        ensures bytes { OfValue reg.now (Self.handle self.now).id (λ segment.
             result.now ≡ slice_range segment.payload (offset_of offset) (offset_of offset + count)) };
 
     /// Whether a segment can stay without a handle on it.
@@ -212,25 +191,25 @@ pub trait SharedMemory<A: ShmAllocator>: Debug
 
     /// Whether closing takes the name away.
     fn has_ownership(&self) -> bool
-        ensures owner { result ≡ (handle self.now).is_owner };
+        ensures owner { result ≡ (Self.handle self.now).is_owner };
 
     /// From now on closing takes the name away.
     fn acquire_ownership(&mut self)
-        ensures handle { handle self.new ≡ record (handle self.old) { is_owner = true } }
+        ensures handle { Self.handle self.new ≡ record (Self.handle self.old) { is_owner = true } }
         ensures name { Self.concept_name self.new ≡ Self.concept_name self.old };
 
     /// From now on closing leaves the name.
     fn release_ownership(&mut self)
-        ensures handle { handle self.new ≡ record (handle self.old) { is_owner = false } }
+        ensures handle { Self.handle self.new ≡ record (Self.handle self.old) { is_owner = false } }
         ensures name { Self.concept_name self.new ≡ Self.concept_name self.old };
 
     /// Ends the handle: the entry is held once less, and the name goes where the handle owns it and it still stands for
     /// the entry. The segment is dropped where neither a holder nor a name is left.
     fn close(self, reg: &mut Registry<AllocatorDetails<A>>)
-        requires { Has reg.old (handle self) }
-        ensures closed { reg.new ≡ after_close reg.old (handle self) }
-        ensures keeps_others { KeepsOtherHandles reg.old reg.new (handle self).id }
-        ensures leaves_sharers { LeavesSharers reg.old reg.new (handle self).id }
+        requires { Has reg.old (Self.handle self) }
+        ensures closed { reg.new ≡ after_close reg.old (Self.handle self) }
+        ensures keeps_others { KeepsOtherHandles reg.old reg.new (Self.handle self).id }
+        ensures leaves_sharers { LeavesSharers reg.old reg.new (Self.handle self).id }
         ensures sound { IsSound reg.old };
 
     /// Removes the segment of this name, as `remove_cfg` does, and answers whether it was there. Since nothing is listed
@@ -272,7 +251,7 @@ pub trait SharedMemoryForPoolAllocator: SharedMemory<PoolAllocator> {
         offset: PointerOffset,
     )
         requires there { Has reg.old (Self.handle self.now) }
-        requires allocated { OfSegment reg.old (Self.handle self.now).id (λ segment.
+        requires allocated { OfValue reg.old (Self.handle self.now).id (λ segment.
             IsUsedBucket segment.allocator offset) }
         ensures freed { ChangesAllocator reg.old (Self.handle self.now).id
             (λ before after. FreesBucket before offset after) reg.new }
@@ -281,6 +260,6 @@ pub trait SharedMemoryForPoolAllocator: SharedMemory<PoolAllocator> {
     /// The size of each bucket in bytes.
     fn bucket_size(&self, reg: &Registry<AllocatorDetails<PoolAllocator>>) -> usize
         requires { Has reg.now (Self.handle self.now) }
-        ensures size { OfSegment reg.now (Self.handle self.now).id (λ segment.
+        ensures size { OfValue reg.now (Self.handle self.now).id (λ segment.
             result ≡ segment.allocator.buckets.size) };
 }

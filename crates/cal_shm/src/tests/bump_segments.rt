@@ -27,7 +27,10 @@ fn chunks_come_from_the_front<M: SharedMemory<BumpAllocator>>(
     let none = memory.allocate(&mut reg, Layout::new(0, 1).ok_or("a layout")?);
     assert_eq!(rt; none.err(), Some(ShmAllocationError::SizeIsZero));
     let aligned = memory.allocate(&mut reg, Layout::new(1, 16).ok_or("a layout")?);
-    assert_eq!(rt; aligned.err(), Some(ShmAllocationError::ExceedsMaxSupportedAlignment));
+    assert_eq!(rt;
+        aligned.err(),
+        Some(ShmAllocationError::ExceedsMaxSupportedAlignment)
+    );
     assert_eq!(rt; memory.allocator(&reg).total_space(), 64);
     Ok(())
 }

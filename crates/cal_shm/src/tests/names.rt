@@ -32,7 +32,9 @@ fn a_segment_is_listed_and_removed<A: ShmAllocator, M: SharedMemory<A>>(
 #[test]
 fn segments_are_listed_and_removed(rt: HostRuntime) -> Result<(), Fail> {
     let alloc = rt.alloc();
-    a_segment_is_listed_and_removed::<PoolAllocator, process_local::Memory<PoolAllocator>>(&rt, alloc)?;
+    a_segment_is_listed_and_removed::<PoolAllocator, process_local::Memory<PoolAllocator>>(
+        &rt, alloc,
+    )?;
     a_segment_is_listed_and_removed::<PoolAllocator, file::Memory<PoolAllocator>>(&rt, alloc)
 }
 
@@ -62,7 +64,9 @@ fn a_segment_outlives_its_handles<A: ShmAllocator, M: SharedMemory<A>>(
 #[test]
 fn segments_outlive_their_handles(rt: HostRuntime) -> Result<(), Fail> {
     let alloc = rt.alloc();
-    a_segment_outlives_its_handles::<PoolAllocator, process_local::Memory<PoolAllocator>>(&rt, alloc)?;
+    a_segment_outlives_its_handles::<PoolAllocator, process_local::Memory<PoolAllocator>>(
+        &rt, alloc,
+    )?;
     a_segment_outlives_its_handles::<PoolAllocator, file::Memory<PoolAllocator>>(&rt, alloc)
 }
 

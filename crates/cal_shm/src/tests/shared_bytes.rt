@@ -1,5 +1,5 @@
 //! Bytes that are written through one handle and read through another.
-use crate::{SharedMemory, SharedMemoryBuilder, file, process_local};
+use crate::{PayloadHolder, SharedMemory, SharedMemoryBuilder, file, process_local};
 use cal_alloc::pool_allocator::Config;
 use cal_alloc::{Layout, PointerOffset, PoolAllocator};
 use cal_names::{FileName, NamedConceptBuilder};
@@ -20,7 +20,10 @@ fn both_see_the_bytes<M: SharedMemory<PoolAllocator>>(
         .size(8)
         .create(alloc, &mut reg, &Config { bucket_layout })?;
     let second = M::Builder::new(&name).open(&mut reg, AccessMode::ReadWrite)?;
-    assert_eq!(rt; first.bytes(&reg, PointerOffset::new(0), 8), [0; 8].as_slice());
+    assert_eq!(rt;
+        first.bytes(&reg, PointerOffset::new(0), 8),
+        [0; 8].as_slice()
+    );
     let written = M::bytes_mut(&mut reg, &first, PointerOffset::new(2), 3);
     assert_eq!(rt; written.len(), 3);
     written.copy_from_slice(&[1, 2, 3]);

@@ -1,7 +1,9 @@
 //! A byte that is written in a chunk and read back, through the bounds alone.
 ghost use Rattle.std.specs.Prelude.{◌≡◌, IfOk, OnErr};
 
-use crate::{SharedMemory, SharedMemoryBuilder, SharedMemoryCreateError, file, process_local};
+use crate::{
+    PayloadHolder, SharedMemory, SharedMemoryBuilder, SharedMemoryCreateError, file, process_local,
+};
 use cal_alloc::{BumpAllocator, PointerOffset, PoolAllocator, ShmAllocator};
 use cal_names::{FileName, NamedConceptBuilder};
 use cal_storage::Registry;

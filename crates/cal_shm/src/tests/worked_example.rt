@@ -106,7 +106,10 @@ fn refusals_come_in_order<M: SharedMemory<PoolAllocator>>(
         refusal_of::<M>(alloc, &mut reg, b"other", 64, 8192)?,
         Some(SharedMemoryCreateError::InternalError)
     );
-    assert_eq!(rt; refusal_of::<M>(alloc, &mut reg, b"other", 8192, 4096)?, None);
+    assert_eq!(rt;
+        refusal_of::<M>(alloc, &mut reg, b"other", 8192, 4096)?,
+        None
+    );
     assert_eq!(rt; reg.len(), 2);
     Ok(())
 }

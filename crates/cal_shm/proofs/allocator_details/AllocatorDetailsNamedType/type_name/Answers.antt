@@ -9,10 +9,14 @@ returns-then-id-lt10 g c =
 
 pub returns-then-id-lt100 : goal.returns-then-id-lt100
 returns-then-id-lt100 g c =
-    rw (← c.unique_id-id.ensures.value,
-    decimal_two c.unique_id-id.result c.if-id-lt10.false c.if-id-lt100.true) (search rules)
+    rw (
+      ← c.unique_id-id.ensures.value,
+      decimal_two c.unique_id-id.result c.if-id-lt10.false c.if-id-lt100.true,
+    ) (search rules)
 
 pub returns : goal.returns
 returns g c =
-    rw (← c.unique_id-id.ensures.value,
-    decimal_three c.unique_id-id.result c.if-id-lt100.false c.unique_id-id.type_inv) (search rules)
+    rw (
+      ← c.unique_id-id.ensures.value,
+      decimal_three c.unique_id-id.result c.if-id-lt100.false c.unique_id-id.type_inv,
+    ) (search rules)
