@@ -1,4 +1,5 @@
-//! What is done where a queue is full, and for how long. Ported from `zero_copy_connection/mod.rs` of iceoryx2-cal 0.9.3.
+//! What is done where a queue is full, and for how long. Ported from `zero_copy_connection/mod.rs` of iceoryx2-cal
+//! 0.9.3.
 
 /// What a handler answers that is asked while the queue of a channel is full.
 #[derive(Debug, Clone, Copy, PartialEq, Eq)]

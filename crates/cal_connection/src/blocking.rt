@@ -49,8 +49,8 @@ fn ask<F: Fn(u64, u64) -> BackpressureToReceiverAction>(
     handler(retry, ticks)
 }
 
-/// Asks the handler turn by turn until one of its answers ends the turns, and tells whether the send fails by it. Nobody else
-/// acts on the registry while it is lent, so the queue stays full and nothing else ends them.
+/// Asks the handler turn by turn until one of its answers ends the turns, and tells whether the send fails by it.
+/// Nobody else acts on the registry while it is lent, so the queue stays full and nothing else ends them.
 pub(crate) fn ask_until_end<R: Wait, F: Fn(u64, u64) -> BackpressureToReceiverAction, C: Clock>(
     rt: &R,
     handler: &F,

@@ -120,7 +120,8 @@ impl Channel {
     ) -> Result<Option<PointerOffset>, ZeroCopySendError>
         requires size { 0 < sample_size }
         requires segment { segment_of ptr < length self.old.segments }
-        requires index { offset_of ptr / sample_size < capacity_of (segment_at self.old.segments (segment_of ptr)).used }
+        requires index { offset_of ptr / sample_size
+            < capacity_of (segment_at self.old.segments (segment_of ptr)).used }
         ensures answer { result ≡ send_answer overflow self.old ptr sample_size }
         ensures sent { self.new ≡ after_send overflow self.old ptr sample_size }
     {

@@ -17,8 +17,8 @@ use cal_storage::{
     AccessMode, DynamicStorage, DynamicStorageBuilder, DynamicStorageOpenError, Registry,
 };
 
-/// Takes the bit of a port away, or marks the connection where the port is the last, and lets go of the entry. The last port
-/// takes the name with it.
+/// Takes the bit of a port away, or marks the connection where the port is the last, and lets go of the entry. The last
+/// port takes the name with it.
 pub(crate) fn close_end<S: DynamicStorage<SharedManagementData>>(
     reg: &mut Registry<SharedManagementData>,
     mut storage: S,
@@ -39,8 +39,8 @@ pub(crate) fn close_end<S: DynamicStorage<SharedManagementData>>(
     storage.close(reg);
 }
 
-/// Removes the port of this bit by force: all channels are closed, and the port leaves as one that closes does. An entry that
-/// is still being made loses its name.
+/// Removes the port of this bit by force: all channels are closed, and the port leaves as one that closes does. An
+/// entry that is still being made loses its name.
 pub(crate) fn remove_port<S: DynamicStorage<SharedManagementData>>(
     reg: &mut Registry<SharedManagementData>,
     name: &FileName,

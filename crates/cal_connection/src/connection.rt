@@ -35,8 +35,8 @@ pub trait ZeroCopyConnection: Debug + NamedConceptMgmt<Names = Registry<SharedMa
     // Whether an opening of an entry looks at its version.
     ghost checks_version: { Bool };
 
-    /// Removes the sender of this name by force: all channels are closed, and the sender leaves as one that closes does. An
-    /// entry that is still being made loses its name. This is for a sender that is gone without having closed.
+    /// Removes the sender of this name by force: all channels are closed, and the sender leaves as one that closes
+    /// does. An entry that is still being made loses its name. This is for a sender that is gone without having closed.
     fn remove_sender(
         reg: &mut Registry<SharedManagementData>,
         name: &FileName,

@@ -17,8 +17,8 @@ use cal_storage::Registry;
 use std::alloc::Global;
 use std::fmt::Debug;
 
-/// A builder of the ports of a connection. Buffer size, borrow limit, segments, samples and channels count as 1 where they are
-/// told as 0.
+/// A builder of the ports of a connection. Buffer size, borrow limit, segments, samples and channels count as 1 where
+/// they are told as 0.
 pub trait ZeroCopyConnectionBuilder<C: ZeroCopyConnection>: Debug
     + Drop
     + NamedConceptBuilder<C, Options = ConnectionOptions> {
@@ -52,8 +52,8 @@ pub trait ZeroCopyConnectionBuilder<C: ZeroCopyConnection>: Debug
         ensures plan { Self.plan result ≡ with_settings (Self.plan self)
             (record (Self.plan self).options.settings { number_of_channels = max 1 value }) };
 
-    /// The state in which the channels of a new connection begin; open by default. Where a connection is found, its channels
-    /// stay as they are.
+    /// The state in which the channels of a new connection begin; open by default. Where a connection is found, its
+    /// channels stay as they are.
     fn initial_channel_state(self, value: ChannelState) -> Self
         ensures plan { Self.plan result ≡ record (Self.plan self) {
           options = record (Self.plan self).options { initial_state = value };
@@ -70,7 +70,8 @@ pub trait ZeroCopyConnectionBuilder<C: ZeroCopyConnection>: Debug
         alloc: Global,
         reg: &mut Registry<SharedManagementData>,
     ) -> Result<C::Sender, ZeroCopyCreationError>
-        ensures refused { IfSome (early_refusal C.checks_version reg.old (Self.plan self)) (λ error. result ≡ Err error) }
+        ensures refused { IfSome (early_refusal C.checks_version reg.old (Self.plan self))
+            (λ error. result ≡ Err error) }
         ensures found_refused { early_refusal C.checks_version reg.old (Self.plan self) ≡ None →
             IfSome (found_refusal reg.old (Self.plan self) sender_bit) (λ error. result ≡ Err error) }
         ensures error { IfErr result (λ error.
@@ -86,14 +87,15 @@ pub trait ZeroCopyConnectionBuilder<C: ZeroCopyConnection>: Debug
         ensures keeps { KeepsHandles reg.old reg.new }
         ensures unchanged { OnErr result (reg.new ≡ reg.old) };
 
-    /// Creates the receiver of this name: it joins the connection that is found, or makes one. A refused call leaves the
-    /// registry as it was.
+    /// Creates the receiver of this name: it joins the connection that is found, or makes one. A refused call leaves
+    /// the registry as it was.
     fn create_receiver(
         self,
         alloc: Global,
         reg: &mut Registry<SharedManagementData>,
     ) -> Result<C::Receiver, ZeroCopyCreationError>
-        ensures refused { IfSome (early_refusal C.checks_version reg.old (Self.plan self)) (λ error. result ≡ Err error) }
+        ensures refused { IfSome (early_refusal C.checks_version reg.old (Self.plan self))
+            (λ error. result ≡ Err error) }
         ensures found_refused { early_refusal C.checks_version reg.old (Self.plan self) ≡ None →
             IfSome (found_refusal reg.old (Self.plan self) receiver_bit)
             (λ error. (result ≡ Err error) ⊎ (result ≡ Err NoMemory)) }

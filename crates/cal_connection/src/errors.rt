@@ -77,7 +77,8 @@ pub enum ZeroCopyCreationError {
 /// Why an offset wasn't sent. Nothing has changed, but after `ConnectionCorrupted`.
 #[derive(Debug, Clone, Copy, PartialEq, Eq, Error)]
 pub enum ZeroCopySendError {
-    /// The oldest offset, which left the full queue, names no used entry. It is gone, and the new offset is queued and used.
+    /// The oldest offset, which left the full queue, names no used entry. It is gone, and the new offset is queued and
+    /// used.
     #[error("ZeroCopySendError::ConnectionCorrupted")]
     ConnectionCorrupted,
     /// The channel's queue is full, and the connection doesn't overflow.

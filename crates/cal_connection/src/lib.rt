@@ -1,5 +1,5 @@
-//! Connections: a sender and a receiver over one entry of a registry, for one thread. The sender sends the offsets of samples
-//! on channels, the receiver gives them back, and the sender reclaims them.
+//! Connections: a sender and a receiver over one entry of a registry, for one thread. The sender sends the offsets of
+//! samples on channels, the receiver gives them back, and the sender reclaims them.
 #![tactic(auto)]
 
 mod backpressure;

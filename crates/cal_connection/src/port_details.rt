@@ -1,5 +1,5 @@
-//! What both ports of a connection tell of it, and the states of its channels. Ported from `zero_copy_connection/mod.rs` of
-//! iceoryx2-cal 0.9.3.
+//! What both ports of a connection tell of it, and the states of its channels. Ported from
+//! `zero_copy_connection/mod.rs` of iceoryx2-cal 0.9.3.
 ghost use Rattle.std.specs.Prelude.{◌≡◌, ◌<◌, ℕ};
 ghost use Rattle.std.specs.Borrow.{sem};
 ghost use Rattle.cal_storage.specs.declared.handle.Handle.{Handle};
@@ -19,8 +19,9 @@ use cal_names::NamedConcept;
 use cal_storage::Registry;
 use std::fmt::Debug;
 
-/// What a port tells of its connection. Each call has the condition that the registry has the port's entry, and one that names
-/// a channel that the entry has this channel. A call that changes something changes the word of that channel alone.
+/// What a port tells of its connection. Each call has the condition that the registry has the port's entry, and one
+/// that names a channel that the entry has this channel. A call that changes something changes the word of that channel
+/// alone.
 pub trait ZeroCopyPortDetails: Debug + Drop + NamedConcept {
     // The handle of the connection's entry.
     ghost handle: { Self → Handle };
@@ -199,8 +200,8 @@ pub trait ZeroCopyPortDetails: Debug + Drop + NamedConcept {
         Self::management_data_mut(reg, self).set_channel_word(channel_id.value(), next);
     }
 
-    /// Ends the port: its bit goes, or the connection is marked where it is the last one there. Its handle is closed, and the
-    /// last port takes the name with it where this still stands for its entry.
+    /// Ends the port: its bit goes, or the connection is marked where it is the last one there. Its handle is closed,
+    /// and the last port takes the name with it where this still stands for its entry.
     fn close(self, reg: &mut Registry<SharedManagementData>)
         requires { Has reg.old (handle self) }
         ensures closed { reg.new ≡ after_end reg.old (handle self) bit }

@@ -51,7 +51,8 @@ pub trait ZeroCopyReceiver: ZeroCopyPortDetails {
         ensures port { end self.new ≡ with_count (end self.old) channel_id
             (count_after_receive result (count_at (end self.old) channel_id)) };
 
-    /// Gives an offset back to the sender on a channel, from which one is borrowed less then. A refused call changes nothing.
+    /// Gives an offset back to the sender on a channel, from which one is borrowed less then. A refused call changes
+    /// nothing.
     fn release(
         &mut self,
         reg: &mut Registry<SharedManagementData>,

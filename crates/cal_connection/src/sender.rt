@@ -27,10 +27,10 @@ use std::sync::Wait;
 
 /// The end of a connection that sends offsets and takes them back.
 pub trait ZeroCopySender: ZeroCopyPortDetails {
-    /// Sends an offset on a channel: its sample, of that size in bytes, is in use on the channel from now on. Where the queue
-    /// is full and the connection overflows, the oldest offset leaves it, isn't in use any more, and is the answer. After
-    /// `ReceiveBufferFull` nothing has changed. After `ConnectionCorrupted` the new offset is in use and queued, and the
-    /// oldest is gone.
+    /// Sends an offset on a channel: its sample, of that size in bytes, is in use on the channel from now on. Where the
+    /// queue is full and the connection overflows, the oldest offset leaves it, isn't in use any more, and is the
+    /// answer. After `ReceiveBufferFull` nothing has changed. After `ConnectionCorrupted` the new offset is in use and
+    /// queued, and the oldest is gone.
     fn try_send(
         &mut self,
         reg: &mut Registry<SharedManagementData>,
@@ -48,11 +48,12 @@ pub trait ZeroCopySender: ZeroCopyPortDetails {
         ensures keeps { KeepsHandles reg.old reg.new }
         ensures port { self.new ≡ self.old };
 
-    /// Sends an offset as `try_send` does, and asks the handler what to do while the queue is full and the connection doesn't
-    /// overflow, where both ports are there and the channel isn't closed. The handler is told the number of its earlier calls
-    /// and the ticks that have passed since the first look; `action` is what `FollowBackpressureyStrategy` stands for. Since
-    /// nobody else acts on the registry while it is lent, a handler that always answers `Retry` never lets the call return. A
-    /// refused call changes nothing, save after `ConnectionCorrupted`, as in `try_send`.
+    /// Sends an offset as `try_send` does, and asks the handler what to do while the queue is full and the connection
+    /// doesn't overflow, where both ports are there and the channel isn't closed. The handler is told the number of its
+    /// earlier calls and the ticks that have passed since the first look; `action` is what
+    /// `FollowBackpressureyStrategy` stands for. Since nobody else acts on the registry while it is lent, a handler
+    /// that always answers `Retry` never lets the call return. A refused call changes nothing, save after
+    /// `ConnectionCorrupted`, as in `try_send`.
     fn blocking_send<R: Wait, F: Fn(u64, u64) -> BackpressureToReceiverAction + Drop, C: Clock>(
         &mut self,
         rt: &R,
@@ -67,7 +68,8 @@ pub trait ZeroCopySender: ZeroCopyPortDetails {
         requires there { Has reg.old (Self.handle self.old) }
         requires sendable { IsSendable (port_at reg.old (Self.handle self.old)) channel_id ptr sample_size }
         requires callable { (retry ticks : ℕ) → retry < 2 ^ 64 → ticks < 2 ^ 64 → F.pre handler retry ticks }
-        ensures answer { AnswersObstacle (λ retry answer. (ticks : ℕ) × (ticks < 2 ^ 64) × F.post handler retry ticks answer)
+        ensures answer { AnswersObstacle (λ retry answer.
+            (ticks : ℕ) × (ticks < 2 ^ 64) × F.post handler retry ticks answer)
             action (obstacle (port_at reg.old (Self.handle self.old)) channel_id)
             (send_answer (settings_at reg.old (Self.handle self.old)).enable_safe_overflow
             (channel_of reg.old (Self.handle self.old) channel_id) ptr sample_size) result }
@@ -123,8 +125,8 @@ impl<S: DynamicStorage<SharedManagementData>> Model for Sender<S> {
 }
 
 impl<S: DynamicStorage<SharedManagementData>> Sender<S> {
-    /// The first sample of a segment, from this index on, that is in use on a channel; none where none is. It costs what the
-    /// used list's own call costs, which looks at whole words.
+    /// The first sample of a segment, from this index on, that is in use on a channel; none where none is. It costs
+    /// what the used list's own call costs, which looks at whole words.
     pub fn next_used(
         &self,
         reg: &Registry<SharedManagementData>,
@@ -135,7 +137,8 @@ impl<S: DynamicStorage<SharedManagementData>> Sender<S> {
         requires there { Has reg.now self.now.handle }
         requires channel { channel_id < (settings_at reg.now self.now.handle).number_of_channels }
         requires segment { segment_id < (settings_at reg.now self.now.handle).number_of_segments }
-        ensures first { IsFirstFrom (is_used (channel_of reg.now self.now.handle channel_id).segments segment_id) from result }
+        ensures first { IsFirstFrom (is_used (channel_of reg.now self.now.handle channel_id).segments segment_id)
+            from result }
     {
         let segment = segment_id.value() as usize;
         self.management_data(reg)

@@ -22,7 +22,8 @@ pub struct ConnectionSettings {
 }
 
 impl ConnectionSettings {
-    /// How many offsets wait in the completion queue of a channel at most: as many as can be queued and borrowed, and one more.
+    /// How many offsets wait in the completion queue of a channel at most: as many as can be queued and borrowed, and
+    /// one more.
     pub(crate) fn completion_size(&self) -> usize
         requires { completion_size self.now < 2 ^ 63 }
         ensures value { result ≡ completion_size self.now }

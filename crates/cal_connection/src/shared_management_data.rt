@@ -43,7 +43,8 @@ impl Model for SharedManagementData {
 
     ghost view = { λ d. record { settings = d.settings; word = d.word; channels = d.channels.items } };
 
-    ghost invariant = { λ d. IsSoundPort (record { settings = d.settings; word = d.word; channels = d.channels.items }) };
+    ghost invariant = { λ d.
+        IsSoundPort (record { settings = d.settings; word = d.word; channels = d.channels.items }) };
 }
 
 impl NamedType for SharedManagementData {

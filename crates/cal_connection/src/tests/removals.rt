@@ -10,7 +10,8 @@ use std::alloc::Global;
 use std::process::Abort;
 use std::test::Fail;
 
-/// The receiver is removed by force: the channels are closed and the sender is alone. Then the sender is, and the name is gone.
+/// The receiver is removed by force: the channels are closed and the sender is alone. Then the sender is, and the name
+/// is gone.
 fn both_ends_are_removed<S: DynamicStorage<SharedManagementData>>(
     rt: &impl Abort,
     alloc: Global,

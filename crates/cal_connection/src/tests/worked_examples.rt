@@ -90,7 +90,8 @@ fn overflows_give_the_oldest_back(rt: HostRuntime) -> Result<(), Fail> {
     an_overflow_gives_the_oldest_back::<file::Storage<SharedManagementData>>(&rt, rt.alloc())
 }
 
-/// The completion queue holds the buffer, the borrow limit and one more, and a queue without overflow refuses when it is full.
+/// The completion queue holds the buffer, the borrow limit and one more, and a queue without overflow refuses when it
+/// is full.
 fn a_full_queue_refuses<S: DynamicStorage<SharedManagementData>>(
     rt: &impl Abort,
     alloc: Global,

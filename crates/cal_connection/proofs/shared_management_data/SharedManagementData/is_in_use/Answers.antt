@@ -16,7 +16,7 @@ is_used-requires-clause-segment c =
     subst (λ (p : PortEntry). IsWithin p c.args.channel c.args.ptr c.args.sample_size) (sym c.self.view_is) c.requires in
     let is : c.index.result.now ≡ channel_at port c.args.channel =
     channel_at-found port c.self.invariant c.args.channel c.index.result.now within.there c.index.ensures in
-    rw (is, length-segments port c.self.invariant c.args.channel within.there, c.value.ensures, c.segment_id.ensures) within.segment
+    rw (is, length-segments port c.self.invariant c.args.channel within.there, c.value.ensures.value, c.segment_id.ensures.value) within.segment
 
 pub is_used-requires-clause-index : goal.is_used-requires-clause-index
 is_used-requires-clause-index c =
@@ -29,7 +29,7 @@ is_used-requires-clause-index c =
     subst (λ (p : PortEntry). IsWithin p c.args.channel c.args.ptr c.args.sample_size) (sym c.self.view_is) c.requires in
     let is : c.index.result.now ≡ channel_at port c.args.channel =
     channel_at-found port c.self.invariant c.args.channel c.index.result.now within.there c.index.ensures in
-    rw (c.offset.ensures, c.value.ensures, c.segment_id.ensures)
+    rw (c.offset.ensures.value, c.value.ensures.value, c.segment_id.ensures.value)
     (subst (λ (channel : ChannelEntry). offset_of c.args.ptr / c.args.sample_size
     < capacity_of (segment_at channel.segments (segment_of c.args.ptr)).used) (sym is)
     (subst (λ n. offset_of c.args.ptr / c.args.sample_size < n)
@@ -50,5 +50,5 @@ returns c =
     record {
       value = subst (λ (p : PortEntry). c.is_used.result ≡ is_in_use p c.args.channel c.args.ptr c.args.sample_size)
           c.self.view_is
-          (rw (c.is_used.ensures.value, is, c.offset.ensures, c.value.ensures, c.segment_id.ensures) refl);
+          (rw (c.is_used.ensures.value, is, c.offset.ensures.value, c.value.ensures.value, c.segment_id.ensures.value) refl);
     }
