@@ -1,7 +1,7 @@
 //! A memory segment: an allocator and the bytes that it hands out, in a storage under a name.
 //!
 //! Ported from `shared_memory/mod.rs` of iceoryx2-cal 0.9.3.
-ghost use Rattle.std.specs.Prelude.{◌≡◌, ◌+◌, ℕ, Bool, true, false, Option, Some, None, IfSome, IfOk, IfErr, OnOk, OnErr, ◌⊎◌, codes, length, slice_range};
+ghost use Rattle.std.specs.Prelude.{◌≡◌, ◌+◌, ◌≤◌, ℕ, Bool, true, false, Option, Some, None, IfSome, IfOk, IfErr, OnOk, OnErr, ◌⊎◌, codes, length, slice_range};
 ghost use Rattle.std.specs.Map.{keys_of};
 ghost use Rattle.std.specs.Result.{result_err};
 ghost use Rattle.cal_alloc.specs.Pool.{IsUsedBucket, FreesBucket};
@@ -116,7 +116,9 @@ pub trait SharedMemory<A: ShmAllocator>: Debug
     /// The size of the payload in bytes, at most 2^56.
     fn size(&self, reg: &Registry<AllocatorDetails<A>>) -> usize
         requires { Has reg.now (Self.handle self.now) }
-        ensures size { OfValue reg.now (Self.handle self.now).id (λ segment. result ≡ length segment.payload) };
+        ensures size { OfValue reg.now (Self.handle self.now).id (λ segment. result ≡ length segment.payload) }
+        ensures within { (offset count : ℕ) → offset + count ≤ result →
+            OfValue reg.now (Self.handle self.now).id (λ segment. IsInPayload segment.payload offset count) };
 
     /// The greatest alignment that a chunk can have, in bytes.
     fn max_alignment(&self, reg: &Registry<AllocatorDetails<A>>) -> usize

@@ -3,6 +3,5 @@
 mod bump_segments;
 mod names;
 mod shared_bytes;
-mod stored_bytes;
 mod texts;
 mod worked_example;
