@@ -19,7 +19,8 @@ pub AreClosedBelow-set : (channels : List ChannelEntry) (index : ℕ) (channel :
 AreClosedBelow-set channels index channel within below = record {
   closed = λ k before. elim (cases_eq k index) [
     | inl same ↦
-        let here : slice_index_or (slice_set channels index (closed_channel channel)) k no_channel ≡ closed_channel channel =
+        let here : slice_index_or (slice_set channels index (closed_channel channel)) k no_channel ≡
+        closed_channel channel =
         ap (λ i. slice_index_or (slice_set channels index (closed_channel channel)) i no_channel) same
         ∙ get_or-set_same channels index (closed_channel channel) no_channel within in
         here ∙ ap closed_channel (sym here)

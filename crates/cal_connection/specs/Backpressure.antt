@@ -68,7 +68,8 @@ module _ (Allows : ℕ → BackpressureToReceiverAction → Type 0) (strategy : 
   SomeAnswersEnd fails = (answers : List BackpressureToReceiverAction) × EndsTurns 0 answers fails
 
   -- what is answered where this stands in the way, and a send would be answered so
-  abbrev pub AnswersObstacle : {A : Type 0} → Obstacle → Result A ZeroCopySendError → Result A ZeroCopySendError → Type 0
+  abbrev pub AnswersObstacle : {A : Type 0} → Obstacle → Result A ZeroCopySendError → Result A ZeroCopySendError →
+      Type 0
   AnswersObstacle Nothing sent answer = answer ≡ sent
   AnswersObstacle NoReceiver sent answer = answer ≡ Err NoConnectedReceiverAndBufferIsFull
   AnswersObstacle ClosedChannel sent answer = answer ≡ Err ChannelIsClosed

@@ -18,7 +18,8 @@ module _ (Allows : ℕ → BackpressureToReceiverAction → Type 0) (strategy : 
   -- an answer after which the sender asks again comes before those that end the turns
   pub EndsTurns-cons : (retry : ℕ) (answer : BackpressureToReceiverAction) (answers : List BackpressureToReceiverAction)
       (fails : Bool) → Allows retry answer → asks_again answer ≡ true →
-      EndsTurns Allows strategy (next_retry retry) answers fails → EndsTurns Allows strategy retry (answer ∷ answers) fails
+      EndsTurns Allows strategy (next_retry retry) answers fails →
+      EndsTurns Allows strategy retry (answer ∷ answers) fails
   EndsTurns-cons retry answer [] fails allowed again ends = absurd ends
   EndsTurns-cons retry answer (next ∷ answers) fails allowed again ends = (allowed, again, ends)
 
@@ -55,7 +56,8 @@ module _ (Allows : ℕ → BackpressureToReceiverAction → Type 0) (strategy : 
       (error : ZeroCopySendError) → Has contents handle →
       AnswersObstacle Allows strategy (obstacle (port_at contents handle) channel) passes (Err error) →
       contents ≡ with_channel_of contents handle channel
-      (after_send (settings_at contents handle).enable_safe_overflow (channel_of contents handle channel) pointer sample_size)
+      (after_send (settings_at contents handle).enable_safe_overflow (channel_of contents handle channel) pointer
+      sample_size)
   unsent contents handle channel pointer sample_size error has answered =
       let overflow : Bool = (settings_at contents handle).enable_safe_overflow in
       let found : ChannelEntry = channel_of contents handle channel in
@@ -69,21 +71,25 @@ module _ (Allows : ℕ → BackpressureToReceiverAction → Type 0) (strategy : 
       if_true : {X : Type 0} (b : Bool) (x y : X) → b ≡ true → (if b then x else y) ≡ x
       if_true b x y h = rw h refl
 
-      sent_first : is_refused (settings_at contents handle).enable_safe_overflow (channel_of contents handle channel) ≡ false →
+      sent_first : is_refused (settings_at contents handle).enable_safe_overflow (channel_of contents handle channel) ≡
+          false →
           AnswersObstacle Allows strategy (obstacle (port_at contents handle) channel) passes (Err error) → ⊥
       sent_first room = rw room (λ same. absurd (cc))
 
   -- the same, of what was found in the way and what was answered
   pub unsent-found : (contents : Contents PortEntry) (handle : Handle) (channel pointer sample_size : ℕ)
-      (found : Obstacle) (answer : Result (Unit {0}) ZeroCopySendError) (error : ZeroCopySendError) → Has contents handle →
+      (found : Obstacle) (answer : Result (Unit {0}) ZeroCopySendError) (error : ZeroCopySendError) →
+      Has contents handle →
       found ≡ obstacle (port_at contents handle) channel → answer ≡ Err error →
       AnswersObstacle Allows strategy found passes answer →
       contents ≡ with_channel_of contents handle channel
-      (after_send (settings_at contents handle).enable_safe_overflow (channel_of contents handle channel) pointer sample_size)
+      (after_send (settings_at contents handle).enable_safe_overflow (channel_of contents handle channel) pointer
+      sample_size)
   unsent-found contents handle channel pointer sample_size found answer error has is was answered =
       unsent contents handle channel pointer sample_size error has
       (subst (λ (at : Obstacle). AnswersObstacle Allows strategy at passes (Err error)) is
-      (subst (λ (r : Result (Unit {0}) ZeroCopySendError). AnswersObstacle Allows strategy found passes r) was answered))
+      (subst (λ (r : Result (Unit {0}) ZeroCopySendError). AnswersObstacle Allows strategy found passes r) was
+      answered))
 
 pub not_false : (b : Bool) → not b ≡ false → b ≡ true
 not_false true is = refl
@@ -92,7 +98,8 @@ not_false false is = absurd (cc)
 -- an answer that was given in a turn after which the sender asks again comes before those that end the turns
 pub EndsTurns-asked : (Post : ℕ → ℕ → BackpressureToReceiverAction → Type 0) (strategy : BackpressureToReceiverAction)
     (retry ticks following : ℕ) (answer : BackpressureToReceiverAction) (answers : List BackpressureToReceiverAction)
-    (fails : Bool) → ticks < 2 ^ 64 → Post retry ticks answer → asks_again answer ≡ true → following ≡ next_retry retry →
+    (fails : Bool) → ticks < 2 ^ 64 → Post retry ticks answer → asks_again answer ≡ true →
+    following ≡ next_retry retry →
     EndsTurns (λ n a. (t : ℕ) × (t < 2 ^ 64) × Post n t a) strategy following answers fails →
     EndsTurns (λ n a. (t : ℕ) × (t < 2 ^ 64) × Post n t a) strategy retry (answer ∷ answers) fails
 EndsTurns-asked Post strategy retry ticks following answer answers fails small given again is ends =

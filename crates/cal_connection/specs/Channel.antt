@@ -15,7 +15,8 @@ use Rattle.cal_connection.specs.declared.errors.ZeroCopyReclaimError.TheVariants
 use Rattle.cal_connection.specs.declared.errors.ZeroCopyReleaseError.{ZeroCopyReleaseError}
 use Rattle.cal_connection.specs.declared.errors.ZeroCopyReleaseError.TheVariants.{RetrieveBufferFull}
 
--- the offsets that are queued and those that the receiver returned, the used entries and the sample size of each segment, and
+-- the offsets that are queued and those that the receiver returned, the used entries and the sample size of each
+-- segment, and
 -- the word
 pub record ChannelEntry : Type 0 where
   pub submission : Queue
@@ -52,7 +53,8 @@ without_used details offset = record details { used = after_removal details.used
 
 abbrev pub without_entry : List SegmentDetails → ℕ → List SegmentDetails
 without_entry segments pointer =
-    slice_set segments (segment_of pointer) (without_used (segment_at segments (segment_of pointer)) (offset_of pointer))
+    slice_set segments (segment_of pointer)
+    (without_used (segment_at segments (segment_of pointer)) (offset_of pointer))
 
 -- what came back is taken out where it names a used entry
 abbrev pub after_return : List SegmentDetails → Option ℕ → List SegmentDetails
@@ -84,9 +86,11 @@ is_refused overflow channel = not overflow && is_full channel.submission
 abbrev pub send_answer : Bool → ChannelEntry → ℕ → ℕ → Result (Option ℕ) ZeroCopySendError
 send_answer overflow channel pointer sample_size =
     if is_refused overflow channel then Err ReceiveBufferFull
-    else return_answer ConnectionCorrupted (with_entry channel.segments pointer sample_size) (overflow_of channel.submission)
+    else return_answer ConnectionCorrupted (with_entry channel.segments pointer sample_size)
+    (overflow_of channel.submission)
 
--- the offset is in use and queued as the last, and the oldest leaves a full queue and is judged by the sizes as they now are
+-- the offset is in use and queued as the last, and the oldest leaves a full queue and is judged by the sizes as they
+-- now are
 abbrev pub after_send : Bool → ChannelEntry → ℕ → ℕ → ChannelEntry
 after_send overflow channel pointer sample_size =
     if is_refused overflow channel then channel
@@ -121,7 +125,8 @@ release_answer channel = if is_full channel.completion then Err RetrieveBufferFu
 
 abbrev pub after_release : ChannelEntry → ℕ → ChannelEntry
 after_release channel pointer =
-    if is_full channel.completion then channel else record channel { completion = after_push channel.completion pointer }
+    if is_full channel.completion then channel
+    else record channel { completion = after_push channel.completion pointer }
 
 abbrev pub count_after_release : Result (Unit {0}) ZeroCopyReleaseError → ℕ → ℕ
 count_after_release (Err error) count = count

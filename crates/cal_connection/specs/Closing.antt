@@ -26,7 +26,8 @@ leaving_handle contents handle bit = record handle { is_owner = leaves_mark (por
 -- the registry after the port has left its entry and closed its handle
 abbrev pub after_end : Contents PortEntry → Handle → ℕ → Contents PortEntry
 after_end contents handle bit =
-    after_close (with_port contents handle (without_bit (port_at contents handle) bit)) (leaving_handle contents handle bit)
+    after_close (with_port contents handle (without_bit (port_at contents handle) bit))
+    (leaving_handle contents handle bit)
 
 -- ---- removal by force
 
@@ -40,7 +41,8 @@ with_closed_channels port = record port { channels = map closed_channel port.cha
 
 -- the plan of the storage that is opened for a removal
 abbrev pub removal_plan : List ℕ → ConceptSettings → StoragePlan
-removal_plan name settings = record { name = name; settings = settings; options = record { is_owner = false; room = 0 } }
+removal_plan name settings =
+    record { name = name; settings = settings; options = record { is_owner = false; room = 0 } }
 
 -- why a port isn't removed
 abbrev pub removal_error : DynamicStorageOpenError → Result (Unit {0}) ZeroCopyPortRemoveError

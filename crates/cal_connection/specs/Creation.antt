@@ -51,12 +51,14 @@ with_bit port bit = record port { word = port.word + bit }
 -- the port of this bit has joined the entry of a handle, which was opened for it
 abbrev pub after_joining : Contents PortEntry → Handle → ℕ → Contents PortEntry
 after_joining contents handle bit =
-    with_port (after_opening contents handle.id) handle (with_bit (port_at (after_opening contents handle.id) handle) bit)
+    with_port (after_opening contents handle.id) handle
+    (with_bit (port_at (after_opening contents handle.id) handle) bit)
 
 -- a new connection, of which the port of this bit is there
 abbrev pub after_making : Contents PortEntry → ConnectionPlan → ℕ → Contents PortEntry
 after_making contents plan bit =
-    after_creation contents (path_of plan) (new_port plan.options.settings bit plan.options.initial_state) finished_version
+    after_creation contents (path_of plan) (new_port plan.options.settings bit plan.options.initial_state)
+    finished_version
 
 -- the handle of a new port, and the registry in which it is, by what its path stood for
 abbrev pub end_handle : Contents PortEntry → ConnectionPlan → Option ℕ → Handle

@@ -14,3 +14,4 @@ pub mod ShapeLemmas
 pub mod Traffic
 pub mod TrafficLemmas
 pub mod Words
+pub mod Examples

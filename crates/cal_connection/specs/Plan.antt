@@ -29,4 +29,8 @@ with_settings plan settings = record plan { options = record plan.options { sett
 
 -- the plan of the storage of a connection's entry, which doesn't own its name
 abbrev pub storage_plan : ConnectionPlan → StoragePlan
-storage_plan plan = record { name = plan.name; settings = plan.settings; options = record { is_owner = false; room = 0 } }
+storage_plan plan = record {
+  name = plan.name;
+  settings = plan.settings;
+  options = record { is_owner = false; room = 0 };
+}

@@ -65,7 +65,8 @@ module _ (port : PortEntry) (sound : IsSoundPort port) where
 
   -- an entry stays sound where only the port word changes
   pub IsSoundPort-with_word : (word : ℕ) → IsPortWord word → IsSoundPort (record port { word = word })
-  IsSoundPort-with_word word is = record { clamped = sound.clamped; fits = sound.fits; word = is; shapes = sound.shapes }
+  IsSoundPort-with_word word is =
+      record { clamped = sound.clamped; fits = sound.fits; word = is; shapes = sound.shapes }
 
   -- and where all its channels are closed
   pub IsSoundPort-closed : IsSoundPort (with_closed_channels port)
@@ -93,7 +94,11 @@ map-replicate f n x =
 
 shape-new_channel : (settings : ConnectionSettings) (word : ℕ) → shape (new_channel settings word) ≡ shape_of settings
 shape-new_channel settings word =
-    ap (λ samples. record { submission = settings.buffer_size; completion = completion_size settings; samples = samples })
+    ap (λ samples. record {
+      submission = settings.buffer_size;
+      completion = completion_size settings;
+      samples = samples;
+    })
     (map-replicate samples_of settings.number_of_segments (new_segment settings)
     ∙ ap (replicate settings.number_of_segments) (length-replicate settings.number_of_samples false))
 

@@ -27,7 +27,8 @@ module _ (contents : Contents PortEntry) (handle : Handle) where
   value_of-port_at has = there (entry_of contents handle.id) (λ entry. entry.path ≡ handle.path) has
 
   -- what was written is read
-  pub port_at-with_port-same : (port : PortEntry) → Has contents handle → port_at (with_port contents handle port) handle ≡ port
+  pub port_at-with_port-same : (port : PortEntry) → Has contents handle →
+      port_at (with_port contents handle port) handle ≡ port
   port_at-with_port-same port has =
       ap (λ (o : Option PortEntry). unwrap_or o no_port)
       (value_of-with_value-same contents handle.id port handle refl has)
@@ -58,7 +59,8 @@ module _ (contents : Contents PortEntry) (handle : Handle) where
       ∙ with_port-present has
 
   -- a registry has what it had
-  pub Has-with_port : (port : PortEntry) (other : Handle) → Has contents other → Has (with_port contents handle port) other
+  pub Has-with_port : (port : PortEntry) (other : Handle) → Has contents other →
+      Has (with_port contents handle port) other
   Has-with_port port other has = Has-with_value contents handle.id port other has
 
 -- where an entry was written, each open handle has what it had
@@ -83,7 +85,8 @@ module _ (contents : Contents PortEntry) (handle : Handle) (port : PortEntry) wh
     Has-with_value contents handle.id port other holds.0,
     elim (cases_eq other.id handle.id) [
       | inl same ↦
-          subst (λ i. IsSomeAnd (entry_of (with_port contents handle port) i) (λ entry. count ≤ entry.holders)) (sym same)
+          subst (λ i. IsSomeAnd (entry_of (with_port contents handle port) i) (λ entry. count ≤ entry.holders))
+          (sym same)
           (subst (λ (o : Option (Entry PortEntry)). IsSomeAnd o (λ entry. count ≤ entry.holders))
           (sym (entry_of-with_value-same contents handle.id port))
           (as_many count (entry_of contents handle.id)

@@ -47,7 +47,8 @@ capacity-with_room false q = refl
 -- ---- calls
 
 with_parts : ChannelEntry → ℕ → ℕ → List ℕ → Shape
-with_parts channel submission completion samples = record { submission = submission; completion = completion; samples = samples }
+with_parts channel submission completion samples =
+    record { submission = submission; completion = completion; samples = samples }
 
 pub shape-after_send : (overflow : Bool) (channel : ChannelEntry) (pointer sample_size : ℕ) →
     shape (after_send overflow channel pointer sample_size) ≡ shape channel
@@ -65,17 +66,28 @@ shape-after_send overflow channel pointer sample_size = by_test (is_refused over
     }) ≡ shape channel
     by_test true = refl
     by_test false =
-        ap (λ c. record { submission = c; completion = channel.completion.capacity; samples = map samples_of (after_return (with_entry channel.segments pointer sample_size) (overflow_of channel.submission)) })
+        ap (λ c. record {
+          submission = c;
+          completion = channel.completion.capacity;
+          samples = map samples_of
+              (after_return (with_entry channel.segments pointer sample_size) (overflow_of channel.submission));
+        })
         (capacity-with_room (is_full channel.submission) channel.submission)
-        ∙ ap (λ s. record { submission = channel.submission.capacity; completion = channel.completion.capacity; samples = s })
+        ∙ ap (λ s. record {
+          submission = channel.submission.capacity;
+          completion = channel.completion.capacity;
+          samples = s;
+        })
         (samples-after_return (with_entry channel.segments pointer sample_size) (overflow_of channel.submission)
         ∙ samples-with_entry channel.segments pointer sample_size)
 
-pub shape-after_receive : (limit count : ℕ) (channel : ChannelEntry) → shape (after_receive limit count channel) ≡ shape channel
+pub shape-after_receive : (limit count : ℕ) (channel : ChannelEntry) →
+    shape (after_receive limit count channel) ≡ shape channel
 shape-after_receive limit count channel = by_test (is_at_limit limit count)
   where
     by_test : (at_limit : Bool) →
-        shape (if at_limit then channel else record channel { submission = after_pop channel.submission }) ≡ shape channel
+        shape (if at_limit then channel else record channel { submission = after_pop channel.submission }) ≡
+        shape channel
     by_test true = refl
     by_test false = refl
 
@@ -83,7 +95,8 @@ pub shape-after_release : (channel : ChannelEntry) (pointer : ℕ) → shape (af
 shape-after_release channel pointer = by_test (is_full channel.completion)
   where
     by_test : (full : Bool) →
-        shape (if full then channel else record channel { completion = after_push channel.completion pointer }) ≡ shape channel
+        shape (if full then channel else record channel { completion = after_push channel.completion pointer }) ≡
+        shape channel
     by_test true = refl
     by_test false = refl
 

@@ -15,7 +15,8 @@ pub record Side : Type 0 where
   pub channel : ChannelEntry
   pub count : ℕ
 
--- all offsets that were sent, how many of them have left the queue, how many of those were received, all that were released,
+-- all offsets that were sent, how many of them have left the queue, how many of those were received, all that were
+-- released,
 -- and how many of them were reclaimed
 pub record Traffic : Type 0 where
   pub sent : List ℕ
@@ -89,7 +90,8 @@ module _ (overflow : Bool) (limit : ℕ) where
   MayCallAll side [] = ⊤
   MayCallAll side (call ∷ calls) = MayCall side call × MayCallAll (side_after side call) calls
 
--- The queue holds what was sent and hasn't left, the completion queue what was released and isn't reclaimed, and what was
+-- The queue holds what was sent and hasn't left, the completion queue what was released and isn't reclaimed, and what
+-- was
 -- received and isn't released is borrowed.
 pub record Shows (side : Side) (traffic : Traffic) : Type 0 where
   pub room : 1 ≤ side.channel.submission.capacity

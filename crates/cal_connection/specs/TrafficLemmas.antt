@@ -103,7 +103,8 @@ module _ (side : Side) (traffic : Traffic) (shows : Shows side traffic) where
   after_releases : (pointer : ℕ) (full : Bool) → 0 < side.count →
       (let answer : Result (Unit {0}) ZeroCopyReleaseError = if full then Err RetrieveBufferFull else Ok tt in
       Shows (record {
-        channel = if full then side.channel else record side.channel { completion = after_push side.channel.completion pointer };
+        channel = if full then side.channel
+            else record side.channel { completion = after_push side.channel.completion pointer };
         count = count_after_release answer side.count;
       }) (if full then traffic else record traffic { released = traffic.released ++ pointer ∷ [] }))
   after_releases pointer true some = shows
@@ -112,7 +113,8 @@ module _ (side : Side) (traffic : Traffic) (shows : Shows side traffic) where
     queued = shows.queued;
     within = shows.within;
     borrowed = one_less shows.borrowed (length-append traffic.released (pointer ∷ []));
-    completed = joined traffic.reclaimed traffic.released side.channel.completion.values pointer shows.completed shows.given_back;
+    completed = joined traffic.reclaimed traffic.released side.channel.completion.values pointer shows.completed
+        shows.given_back;
     given_back = longer traffic.released pointer traffic.reclaimed shows.given_back;
   }
     where
@@ -148,7 +150,8 @@ module _ (side : Side) (traffic : Traffic) (shows : Shows side traffic) where
 module _ (overflow : Bool) (limit : ℕ) where
   -- a call that is made shows what went over the channel then
   pub Shows-call : (side : Side) (traffic : Traffic) (call : ChannelCall) → Shows side traffic →
-      MayCall overflow limit side call → Shows (side_after overflow limit side call) (traffic_after overflow limit side traffic call)
+      MayCall overflow limit side call →
+      Shows (side_after overflow limit side call) (traffic_after overflow limit side traffic call)
   Shows-call side traffic (sends pointer sample_size) shows may =
       after_sends side traffic shows pointer
       (after_return (with_entry side.channel.segments pointer sample_size) (overflow_of side.channel.submission))

@@ -44,7 +44,7 @@ impl Model for Channel {
 }
 
 impl Channel {
-    /// A channel with these settings, with empty queues and no used entry. The error is want of memory.
+    /// A channel with these settings, with empty queues and no used entry. The error says that memory ran out.
     pub(crate) fn new(
         alloc: Global,
         settings: &ConnectionSettings,

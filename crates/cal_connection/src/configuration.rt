@@ -13,6 +13,7 @@ use std::marker::PhantomData;
 pub struct Configuration<S> {
     /// What stands around a name in its path.
     pub(crate) parts: PathParts,
+    /// The storage that holds the connections.
     of: PhantomData<S>,
 }
 

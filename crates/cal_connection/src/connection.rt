@@ -82,6 +82,7 @@ pub trait ZeroCopyConnection: Debug + NamedConceptMgmt<Names = Registry<SharedMa
 #[derive_where(Debug)]
 #[derive(Drop)]
 pub struct Connection<S> {
+    /// The storage that holds the connections.
     of: PhantomData<S>,
 }
 

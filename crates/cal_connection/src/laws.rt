@@ -21,18 +21,18 @@ pub fn a_channel_shows_its_traffic()
 
 /// A call on a channel leaves every other channel as it was.
 pub fn a_call_leaves_other_channels()
-    ensures { (port : PortEntry) (channel other : ℕ) (changed : ChannelEntry) → other ≢ channel →
+    ensures others { (port : PortEntry) (channel other : ℕ) (changed : ChannelEntry) → other ≢ channel →
         channel_at (with_channel port channel changed) other ≡ channel_at port other }
 {}
 
 /// A call that is refused and leaves its channel as it was leaves the whole registry so.
 pub fn a_channel_that_stays_leaves_the_registry()
-    ensures { (contents : Contents PortEntry) (handle : Handle) (channel : ℕ) → Has contents handle →
+    ensures unchanged { (contents : Contents PortEntry) (handle : Handle) (channel : ℕ) → Has contents handle →
         with_channel_of contents handle channel (channel_of contents handle channel) ≡ contents }
 {}
 
-/// A port sees what the other port of its connection wrote, a port of another connection sees what it saw, and each keeps its
-/// entry.
+/// A port sees what the other port of its connection wrote, a port of another connection sees what it saw, and each
+/// keeps its entry.
 pub fn a_written_entry_is_seen()
     ensures same { (contents : Contents PortEntry) (handle : Handle) (port : PortEntry) → Has contents handle →
         port_at (with_port contents handle port) handle ≡ port }

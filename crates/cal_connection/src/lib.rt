@@ -13,6 +13,7 @@ mod configuration;
 mod connection;
 mod connection_builder;
 pub mod errors;
+pub mod examples;
 pub mod laws;
 mod options;
 mod port_details;

@@ -151,7 +151,7 @@ impl<S: DynamicStorage<SharedManagementData>> Sender<S> {
         reg: &Registry<SharedManagementData>,
         index: usize,
     ) -> SegmentId
-        requires { Has reg.now self.now.handle }
+        requires there { Has reg.now self.now.handle }
         ensures value { result ≡ index % (settings_at reg.now self.now.handle).number_of_segments }
     {
         let settings = self.management_data(reg).settings();

@@ -56,7 +56,7 @@ impl NamedType for SharedManagementData {
 }
 
 impl SharedManagementData {
-    /// An entry with this port word, whose channels begin in this state. The error is want of memory.
+    /// An entry with this port word, whose channels begin in this state. The error says that memory ran out.
     pub(crate) fn new(
         alloc: Global,
         settings: &ConnectionSettings,

@@ -6,7 +6,8 @@ pub record Segment (A : Type 0) : Type 0 where
   pub allocator : A
   pub payload : List ℕ
 
--- What every stored segment keeps: its allocator serves, and manages no byte past the payload, which has at most 2 ^ 56.
+-- What every stored segment keeps: its allocator serves, and manages no byte past the payload, which has at most 2 ^
+-- 56.
 pub record IsServed (properties : Properties) (size : ℕ) : Type 0 where
   pub ready : IsTrue properties.is_ready
   pub within : properties.total ≤ size

@@ -10,7 +10,8 @@ use Rattle.cal_shm.specs.Segment.{Segment, with_bytes}
 
 module _ {A : Type 0} (contents : Contents (Segment A)) (id offset : ℕ) (written : List ℕ) where
   -- it has the entry of each handle that it had
-  pub Has-with_written : (handle : Handle) → Has contents handle → Has (with_written with_bytes contents id offset written) handle
+  pub Has-with_written : (handle : Handle) → Has contents handle →
+      Has (with_written with_bytes contents id offset written) handle
   Has-with_written handle has = from (value_of contents id)
     where
       from : (found : Option (Segment A)) → Has (with_written_in with_bytes contents id offset written found) handle
@@ -21,7 +22,8 @@ module _ {A : Type 0} (contents : Contents (Segment A)) (id offset : ℕ) (writt
   pub KeepsHandles-with_written : KeepsHandles contents (with_written with_bytes contents id offset written)
   KeepsHandles-with_written = from (value_of contents id)
     where
-      from : (found : Option (Segment A)) → KeepsHandles contents (with_written_in with_bytes contents id offset written found)
+      from : (found : Option (Segment A)) →
+          KeepsHandles contents (with_written_in with_bytes contents id offset written found)
       from None = KeepsHandles-same contents
       from (Some segment) = KeepsHandles-with_value contents id (with_bytes segment offset written)
 

@@ -14,8 +14,8 @@ use cal_alloc::{Layout, PointerOffset, PoolAllocator, ShmAllocationError, ShmAll
 use cal_names::{NamedType, TypeName};
 use std::marker::Model;
 
-/// The allocator of a memory segment, and its payload. The allocator serves from the beginning on, and all that it hands
-/// out lies within the payload. Contracts see a record of both.
+/// The allocator of a memory segment, and its payload. The allocator serves from the beginning on, and all that it
+/// hands out lies within the payload. Contracts see a record of both.
 #[derive(Debug, Drop)]
 pub struct AllocatorDetails<A: ShmAllocator> {
     /// Hands out the bytes of the payload; `init` has answered Ok.

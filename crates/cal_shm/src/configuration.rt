@@ -10,8 +10,8 @@ use cal_names::{FileName, NamedConceptConfiguration, Path, PathParts, TypeName};
 use cal_storage::DynamicStorage;
 use std::marker::PhantomData;
 
-/// The configuration of a memory segment of an allocator in a storage. Its paths are those of the storage, so the hash of
-/// the stored type's name stands in them.
+/// The configuration of a memory segment of an allocator in a storage. Its paths are those of the storage, so the hash
+/// of the stored type's name stands in them.
 #[derive_where(Clone, Copy, Debug)]
 pub struct Configuration<A, S> {
     /// What stands around a name in its path.

@@ -1,9 +1,9 @@
-//! Memory segments: an allocator and the bytes that it hands out, in a storage under a name. Whoever creates a segment owns
-//! its name; whoever knows the name can open it, and both allocate there and see the same bytes.
+//! Memory segments: an allocator and the bytes that it hands out, in a storage under a name. Whoever creates a segment
+//! owns its name; whoever knows the name can open it, and both allocate there and see the same bytes.
 //!
 //! The layer above may rely on this: each call changes the segment that it is about and no other name or entry of the
-//! registry, every open handle keeps its entry, what is handed out lies within the payload, and a write changes the bytes
-//! that were lent and no others.
+//! registry, every open handle keeps its entry, what is handed out lies within the payload, and a write changes the
+//! bytes that were lent and no others.
 #![tactic(auto)]
 
 mod allocator_details;

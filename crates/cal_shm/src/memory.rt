@@ -1,5 +1,5 @@
-//! The handle of a memory segment: one body for every allocator and every storage. Ported from `shared_memory/common.rs`
-//! of iceoryx2-cal 0.9.3.
+//! The handle of a memory segment: one body for every allocator and every storage. Ported from
+//! `shared_memory/common.rs` of iceoryx2-cal 0.9.3.
 ghost use Rattle.std.specs.Prelude.{◌≡◌, ◌+◌, Some, true, refl};
 ghost use Rattle.cal_shm.specs.Segment.{Segment};
 

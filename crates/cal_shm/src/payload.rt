@@ -1,5 +1,5 @@
-//! What lends the bytes of a payload to be written. It stands beside the other calls of a segment, over any stored type,
-//! since a clause on what is lent names the type that lends by one parameter.
+//! What lends the bytes of a payload to be written. It stands beside the other calls of a segment, over any stored
+//! type, since a clause on what is lent names the type that lends by one parameter.
 ghost use Rattle.std.specs.Prelude.{◌+◌, ℕ, List, slice_range, ◌≡◌};
 ghost use Rattle.std.specs.Borrow.{sem};
 ghost use Rattle.cal_alloc.specs.PointerOffset.{offset_of};
@@ -25,7 +25,8 @@ pub trait PayloadHolder<T: Payload> {
     // The entry that is held, and whether its name is owned.
     ghost handle: { Self → Handle };
 
-    /// That many bytes of the payload, from an offset on, to be written. The registry comes first, since it is what lends.
+    /// That many bytes of the payload, from an offset on, to be written. The registry comes first, since it is what
+    /// lends.
     fn bytes_mut<'r>(
         reg: &'r mut Registry<T>,
         memory: &Self,

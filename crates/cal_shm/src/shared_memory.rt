@@ -80,7 +80,8 @@ pub trait SharedMemoryBuilder<A: ShmAllocator, Shm: SharedMemory<A>>: Debug
         ensures sound { OnOk result (IsSound reg.old) }
         ensures unchanged { OnErr result (reg.new ≡ reg.old) };
 
-    /// Opens the segment of this name, which is held once more then. What is opened doesn't own the name. Takes no memory.
+    /// Opens the segment of this name, which is held once more then. What is opened doesn't own the name. Takes no
+    /// memory.
     fn open(
         self,
         reg: &mut Registry<AllocatorDetails<A>>,
@@ -135,8 +136,8 @@ pub trait SharedMemory<A: ShmAllocator>: Debug
         requires { Has reg.now (Self.handle self.now) }
         ensures allocator { OfValue reg.now (Self.handle self.now).id (λ segment. result.now ≡ segment.allocator) };
 
-    /// Hands out a chunk of that layout, which lies within the payload. After an error everything is as before. Takes no
-    /// memory.
+    /// Hands out a chunk of that layout, which lies within the payload. After an error everything is as before. Takes
+    /// no memory.
     fn allocate(
         &self,
         reg: &mut Registry<AllocatorDetails<A>>,
@@ -176,7 +177,8 @@ pub trait SharedMemory<A: ShmAllocator>: Debug
         count: usize,
     ) -> &'r [u8]
         requires there { Has reg.now (Self.handle self.now) }
-        requires within { OfValue reg.now (Self.handle self.now).id (λ segment. IsInPayload segment.payload (offset_of offset) count) }
+        requires within { OfValue reg.now (Self.handle self.now).id
+            (λ segment. IsInPayload segment.payload (offset_of offset) count) }
         ensures bytes { OfValue reg.now (Self.handle self.now).id (λ segment.
             result.now ≡ slice_range segment.payload (offset_of offset) (offset_of offset + count)) };
 
@@ -214,8 +216,8 @@ pub trait SharedMemory<A: ShmAllocator>: Debug
         ensures leaves_sharers { LeavesSharers reg.old reg.new (Self.handle self).id }
         ensures sound { IsSound reg.old };
 
-    /// Removes the segment of this name, as `remove_cfg` does, and answers whether it was there. Since nothing is listed
-    /// first, it takes no memory.
+    /// Removes the segment of this name, as `remove_cfg` does, and answers whether it was there. Since nothing is
+    /// listed first, it takes no memory.
     fn remove_name(
         reg: &mut Registry<AllocatorDetails<A>>,
         name: &FileName,

@@ -9,10 +9,12 @@ use Rattle.cal_connection.proofs.shared_management_data.close_all.Goals as goal
 pub loop-index-preserved : goal.loop-index-preserved
 loop-index-preserved c = record {
   same =
-      map-set_same closed_channel c.loop-index.channels.items c.loop-index.index c.set_word.new.self c.index_mut.result.now
+      map-set_same closed_channel c.loop-index.channels.items c.loop-index.index c.set_word.new.self
+      c.index_mut.result.now
       (ap closed_channel c.set_word.ensures.set ∙ ap closed_channel c.index_mut.ensures.value)
       ∙ c.loop-index.invariant.same;
-  below = subst (λ channel. AreClosedBelow (slice_set c.loop-index.channels.items c.loop-index.index channel) (c.loop-index.index + 1))
+  below = subst (λ channel. AreClosedBelow (slice_set c.loop-index.channels.items c.loop-index.index channel)
+      (c.loop-index.index + 1))
       (sym c.set_word.ensures.set)
       (AreClosedBelow-set c.loop-index.channels.items c.loop-index.index c.index_mut.result.now (omega arith)
       c.loop-index.invariant.below);

@@ -13,10 +13,16 @@ is_used-requires-clause-segment c =
       channels = c.self.inside.channels.items;
     } in
     let within : IsWithin port c.args.channel c.args.ptr c.args.sample_size =
-    subst (λ (p : PortEntry). IsWithin p c.args.channel c.args.ptr c.args.sample_size) (sym c.self.view_is) c.requires in
+    subst (λ (p : PortEntry). IsWithin p c.args.channel c.args.ptr c.args.sample_size) (sym c.self.view_is)
+    c.requires in
     let is : c.index.result.now ≡ channel_at port c.args.channel =
     channel_at-found port c.self.invariant c.args.channel c.index.result.now within.there c.index.ensures in
-    rw (is, length-segments port c.self.invariant c.args.channel within.there, c.value.ensures.value, c.segment_id.ensures.value) within.segment
+    rw (
+      is,
+      length-segments port c.self.invariant c.args.channel within.there,
+      c.value.ensures.value,
+      c.segment_id.ensures.value,
+    ) within.segment
 
 pub is_used-requires-clause-index : goal.is_used-requires-clause-index
 is_used-requires-clause-index c =
@@ -26,7 +32,8 @@ is_used-requires-clause-index c =
       channels = c.self.inside.channels.items;
     } in
     let within : IsWithin port c.args.channel c.args.ptr c.args.sample_size =
-    subst (λ (p : PortEntry). IsWithin p c.args.channel c.args.ptr c.args.sample_size) (sym c.self.view_is) c.requires in
+    subst (λ (p : PortEntry). IsWithin p c.args.channel c.args.ptr c.args.sample_size) (sym c.self.view_is)
+    c.requires in
     let is : c.index.result.now ≡ channel_at port c.args.channel =
     channel_at-found port c.self.invariant c.args.channel c.index.result.now within.there c.index.ensures in
     rw (c.offset.ensures.value, c.value.ensures.value, c.segment_id.ensures.value)
@@ -44,11 +51,13 @@ returns c =
       channels = c.self.inside.channels.items;
     } in
     let within : IsWithin port c.args.channel c.args.ptr c.args.sample_size =
-    subst (λ (p : PortEntry). IsWithin p c.args.channel c.args.ptr c.args.sample_size) (sym c.self.view_is) c.requires in
+    subst (λ (p : PortEntry). IsWithin p c.args.channel c.args.ptr c.args.sample_size) (sym c.self.view_is)
+    c.requires in
     let is : c.index.result.now ≡ channel_at port c.args.channel =
     channel_at-found port c.self.invariant c.args.channel c.index.result.now within.there c.index.ensures in
     record {
       value = subst (λ (p : PortEntry). c.is_used.result ≡ is_in_use p c.args.channel c.args.ptr c.args.sample_size)
           c.self.view_is
-          (rw (c.is_used.ensures.value, is, c.offset.ensures.value, c.value.ensures.value, c.segment_id.ensures.value) refl);
+          (rw (c.is_used.ensures.value, is, c.offset.ensures.value, c.value.ensures.value, c.segment_id.ensures.value)
+          refl);
     }

@@ -32,8 +32,10 @@ returns c =
     let is : c.index.result.now ≡ channel_at port c.args.channel =
     channel_at-found port c.self.invariant c.args.channel c.index.result.now within c.index.ensures in
     record {
-      first = subst (λ (p : PortEntry). IsFirstFrom (is_used (channel_at p c.args.channel).segments c.args.segment) c.args.from
+      first = subst (λ (p : PortEntry). IsFirstFrom (is_used (channel_at p c.args.channel).segments c.args.segment)
+          c.args.from
           c.next_used.result) c.self.view_is
-          (subst (λ (channel : ChannelEntry). IsFirstFrom (is_used channel.segments c.args.segment) c.args.from c.next_used.result) is
+          (subst (λ (channel : ChannelEntry). IsFirstFrom (is_used channel.segments c.args.segment) c.args.from
+          c.next_used.result) is
           c.next_used.ensures.first);
     }

@@ -14,9 +14,11 @@ try_send-requires-clause-segment c =
       channels = c.self.inside.channels.items;
     } in
     let within : IsWithin port c.args.channel c.args.ptr c.args.sample_size =
-    subst (λ (p : PortEntry). IsWithin p c.args.channel c.args.ptr c.args.sample_size) (sym c.self.view_is) c.requires in
+    subst (λ (p : PortEntry). IsWithin p c.args.channel c.args.ptr c.args.sample_size) (sym c.self.view_is)
+    c.requires in
     let is : c.index_mut.result.now ≡ channel_at port c.args.channel =
-    channel_at-found port c.self.invariant c.args.channel c.index_mut.result.now within.there c.index_mut.ensures.value in
+    channel_at-found port c.self.invariant c.args.channel c.index_mut.result.now within.there
+    c.index_mut.ensures.value in
     rw (is, length-segments port c.self.invariant c.args.channel within.there) within.segment
 
 pub try_send-requires-clause-index : goal.try_send-requires-clause-index
@@ -27,9 +29,11 @@ try_send-requires-clause-index c =
       channels = c.self.inside.channels.items;
     } in
     let within : IsWithin port c.args.channel c.args.ptr c.args.sample_size =
-    subst (λ (p : PortEntry). IsWithin p c.args.channel c.args.ptr c.args.sample_size) (sym c.self.view_is) c.requires in
+    subst (λ (p : PortEntry). IsWithin p c.args.channel c.args.ptr c.args.sample_size) (sym c.self.view_is)
+    c.requires in
     let is : c.index_mut.result.now ≡ channel_at port c.args.channel =
-    channel_at-found port c.self.invariant c.args.channel c.index_mut.result.now within.there c.index_mut.ensures.value in
+    channel_at-found port c.self.invariant c.args.channel c.index_mut.result.now within.there
+    c.index_mut.ensures.value in
     subst (λ (channel : ChannelEntry). offset_of c.args.ptr / c.args.sample_size
     < capacity_of (segment_at channel.segments (segment_of c.args.ptr)).used) (sym is)
     (subst (λ n. offset_of c.args.ptr / c.args.sample_size < n)
@@ -49,11 +53,14 @@ returns-clause-answer c =
       channels = c.self.inside.channels.items;
     } in
     let within : IsWithin port c.args.channel c.args.ptr c.args.sample_size =
-    subst (λ (p : PortEntry). IsWithin p c.args.channel c.args.ptr c.args.sample_size) (sym c.self.view_is) c.requires in
+    subst (λ (p : PortEntry). IsWithin p c.args.channel c.args.ptr c.args.sample_size) (sym c.self.view_is)
+    c.requires in
     let is : c.index_mut.result.now ≡ channel_at port c.args.channel =
-    channel_at-found port c.self.invariant c.args.channel c.index_mut.result.now within.there c.index_mut.ensures.value in
+    channel_at-found port c.self.invariant c.args.channel c.index_mut.result.now within.there
+    c.index_mut.ensures.value in
     subst (λ (p : PortEntry). c.try_send.result
-    ≡ send_answer p.settings.enable_safe_overflow (channel_at p c.args.channel) c.args.ptr c.args.sample_size) c.self.view_is
+    ≡ send_answer p.settings.enable_safe_overflow (channel_at p c.args.channel) c.args.ptr c.args.sample_size)
+    c.self.view_is
     (c.try_send.ensures.answer
     ∙ ap (λ channel. send_answer port.settings.enable_safe_overflow channel c.args.ptr c.args.sample_size) is)
 
@@ -65,10 +72,13 @@ returns-clause-sent c =
       channels = c.self.inside.channels.items;
     } in
     let within : IsWithin port c.args.channel c.args.ptr c.args.sample_size =
-    subst (λ (p : PortEntry). IsWithin p c.args.channel c.args.ptr c.args.sample_size) (sym c.self.view_is) c.requires in
+    subst (λ (p : PortEntry). IsWithin p c.args.channel c.args.ptr c.args.sample_size) (sym c.self.view_is)
+    c.requires in
     let is : c.index_mut.result.now ≡ channel_at port c.args.channel =
-    channel_at-found port c.self.invariant c.args.channel c.index_mut.result.now within.there c.index_mut.ensures.value in
+    channel_at-found port c.self.invariant c.args.channel c.index_mut.result.now within.there
+    c.index_mut.ensures.value in
     subst (λ (p : PortEntry). with_channel port c.args.channel c.try_send.new.self ≡ with_channel p c.args.channel
-    (after_send p.settings.enable_safe_overflow (channel_at p c.args.channel) c.args.ptr c.args.sample_size)) c.self.view_is
+    (after_send p.settings.enable_safe_overflow (channel_at p c.args.channel) c.args.ptr c.args.sample_size))
+    c.self.view_is
     (ap (with_channel port c.args.channel) (c.try_send.ensures.sent
     ∙ ap (λ channel. after_send port.settings.enable_safe_overflow channel c.args.ptr c.args.sample_size) is))
