@@ -1,0 +1,17 @@
+pub mod Backpressure
+pub mod BackpressureLemmas
+pub mod Channel
+pub mod Closing
+pub mod Configuration
+pub mod Creation
+pub mod Ends
+pub mod Plan
+pub mod Port
+pub mod PortLemmas
+pub mod RegistryLemmas
+pub mod Settings
+pub mod ShapeLemmas
+pub mod Traffic
+pub mod TrafficLemmas
+pub mod Words
+pub mod Examples

@@ -1,0 +1,8 @@
+//! Tests of what no clause says: the worked examples over both kinds of storage, with ample memory, and printed texts.
+mod blocking_sends;
+mod creations;
+mod ends;
+mod removals;
+mod states;
+mod texts;
+mod worked_examples;
