@@ -1,14 +1,13 @@
 -- What the words of a chain say of the marks that they stand for, and what a bucket that is taken or given back leaves.
-use Rattle.std.proofs.Common.{◌≡◌, ◌≢◌, ℕ, zero, suc, ◌+◌, ◌-◌, ◌<◌, ◌≤◌, Bool, true, false, cond, List, [], ◌∷◌, ◌++◌, Option, Some, None, Vec, vec_len, vec_capacity, length, get_or, set, replicate, count_by, is_some, refl, sym, ◌∙◌, ap, subst, arith, ◌⊎◌, inl, inr}
+use Rattle.std.proofs.Common.{◌≡◌, ◌≢◌, ℕ, suc, ◌+◌, ◌-◌, ◌<◌, ◌≤◌, Bool, true, false, cond, List, [], ◌∷◌, ◌++◌, Option, Some, None, Vec, vec_capacity, length, get_or, set, count_by, is_some, refl, sym, ◌∙◌, ap, subst, arith}
 use Rattle.std.specs.List.{list_all}
 use Rattle.std.specs.Vec.{with_item}
 use Rattle.std.specs.declared.alloc.Global.{Global}
-use Rattle.std.proofs.lemmas.Bool.{false≢true}
 use Rattle.std.proofs.lemmas.List.{get_or-set_same, set-get_or, set-set, length-replicate, length-set, length_push}
 use Rattle.std.proofs.lemmas.List.Folds.{sum_by-replicate}
 use Rattle.cal_alloc.specs.FreeBuckets.{BucketMarks}
 use Rattle.cal_alloc.specs.FreeChain.{chain, first_used, freed, AreFreedOnce, free_chain, marks_by, marks_of, IsChain, IsChainedBy, IsChained}
-use Rattle.cal_alloc.specs.PoolLaws.{set-free-is_free, used-within}
+use Rattle.cal_alloc.specs.PoolLaws.{set-free-is_free}
 use Rattle.cal_alloc.specs.declared.free_buckets.FreeBuckets.TheInside.{Inside}
 use Rattle.cal_alloc.proofs.Freed.{length-freed, freed-used, freed_one-count, freed-count, length-first_used, first_used-count, first_used-below, first_used-next, length-chain, chain-other}
 use Rattle.cal_alloc.proofs.Marks.{list_all-counted, counted-list_all, counted-lt-length}

@@ -1,8 +1,8 @@
 -- The least multiple of y that is x or more.
-use Rattle.std.proofs.Common.{◌≡◌, ℕ, zero, suc, ◌+◌, ◌-◌, ◌*◌, ◌/◌, ◌%◌, ◌<◌, ◌≤◌, IsTrue, refl, arith, ◌⊎◌, inl, inr}
+use Rattle.std.proofs.Common.{◌≡◌, ℕ, zero, suc, ◌+◌, ◌-◌, ◌*◌, ◌%◌, ◌<◌, ◌≤◌, IsTrue, refl, arith, ◌⊎◌, inl, inr}
 use Rattle.std.specs.Int.{next_multiple_of, is_power_of_two}
-use Rattle.std.proofs.lemmas.Nat.{div-add-mod', mod_below, mod-mul-add}
-use Rattle.std.proofs.Math.Nat.{mod_self, mod-eq_of_lt, sub-zero}
+use Rattle.std.proofs.lemmas.Nat.{mod-mul-add}
+use Rattle.std.proofs.Math.Nat.{mod-eq_of_lt}
 use Rattle.cal_alloc.specs.Multiples.{nothing-missing, next_multiple_of-multiple}
 use Rattle.std.proofs.lemmas.Bool.{false≢true, cases_lt}
 use lib.Count.{ones}

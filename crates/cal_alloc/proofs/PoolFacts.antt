@@ -1,12 +1,12 @@
 -- A new pool is sound.
-use Rattle.std.proofs.Common.{◌≡◌, ℕ, ◌+◌, ◌*◌, ◌/◌, max, false, IsTrue, ◌∙◌, ap, subst, sym, arith}
+use Rattle.std.proofs.Common.{◌≡◌, ℕ, ◌/◌, max, false, IsTrue, ◌∙◌, ap, subst, sym, arith}
 use Rattle.std.proofs.lemmas.List.{length-replicate}
 use Rattle.std.proofs.Math.Nat.{div-mul-le_self}
 use Rattle.std.specs.Int.{is_power_of_two}
 use Rattle.cal_alloc.specs.FreeBuckets.{BucketMarks, all_free}
 use Rattle.cal_alloc.specs.Growth.{bucket_size_of}
 use Rattle.cal_alloc.specs.Pool.{IsSoundPool, pool_fits, new_pool}
-use Rattle.cal_alloc.specs.PoolFields.{IsKept, pool_of}
+use Rattle.cal_alloc.specs.PoolFields.{IsKept}
 use Rattle.cal_alloc.specs.SizeAndAlignment.{SizeAndAlignment}
 use Rattle.cal_alloc.proofs.Padding.{positive_power, next_multiple_of-twice}
 

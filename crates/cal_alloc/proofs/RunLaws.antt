@@ -1,8 +1,8 @@
 -- Over every run of an allocator the chunks that are out stay apart.
-use Rattle.std.proofs.Common.{◌≡◌, ℕ, zero, suc, ◌+◌, ◌≤◌, List, [], ◌∷◌, Some, sym, ◌∙◌, ap, subst}
+use Rattle.std.proofs.Common.{◌≡◌, ℕ, zero, suc, ◌+◌, ◌≤◌, List, [], ◌∷◌, Some, ◌∙◌, subst}
 use Rattle.std.specs.List.{slice_get}
 use Rattle.std.proofs.lemmas.Option.{same_Some}
-use Rattle.cal_alloc.specs.Chunks.{Properties, chunk_size, IsInChunk, TakesChunk, FreesChunk, IsAllocation, IsDeallocation}
+use Rattle.cal_alloc.specs.Chunks.{Properties, chunk_size, TakesChunk, FreesChunk, IsAllocation, IsDeallocation}
 use Rattle.cal_alloc.specs.PointerOffset.{offset_of}
 use Rattle.cal_alloc.specs.Runs.{OutChunk, Step, gives, takes_back, without_chunk, IsRun, IsByteOf, IsApartFrom, AreApart, AreWithin}
 use Rattle.cal_alloc.specs.SizeAndAlignment.{SizeAndAlignment}

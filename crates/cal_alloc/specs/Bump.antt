@@ -1,25 +1,25 @@
 -- A bump allocator: its memory is used from the front on, and nothing is given back.
-use Rattle.std.specs.Prelude.{ℕ, ◌+◌, ◌^◌, ◌<◌, ◌≤◌, ◌≡◌, Bool, false, nat_lt, ◌==◌, if◌then◌else◌, Option, Some, None}
+use Rattle.std.specs.Prelude.{ℕ, ◌+◌, ◌<◌, ◌≤◌, ◌≡◌, Bool, false, nat_lt, ◌==◌, if◌then◌else◌, Option, Some, None}
 use Rattle.std.specs.Int.{next_multiple_of}
 use Rattle.cal_alloc.specs.Chunks.{Properties}
 use Rattle.cal_alloc.specs.SizeAndAlignment.{SizeAndAlignment}
 use Rattle.cal_alloc.specs.PointerOffset.{pointer_offset, offset_of}
 use Rattle.cal_alloc.specs.declared.shm_allocator.ShmAllocationError.{ShmAllocationError}
 use Rattle.cal_alloc.specs.declared.shm_allocator.ShmAllocationError.TheVariants.{ExceedsMaxSupportedAlignment, OutOfMemory, SizeIsZero}
+use Rattle.cal_alloc.specs.Limits.{max_memory_size}
 
 -- the bytes of its memory, how many from the front on are used, the greatest alignment that its memory gives, and
--- whether
--- `init` has answered Ok
+-- whether `init` has answered Ok
 pub record Bump : Type 0 where
   pub total : ℕ
   pub used : ℕ
   pub memory_alignment : ℕ
   pub is_ready : Bool
 
--- what every bump allocator keeps: no more bytes are used than there are, and there are at most 2 ^ 56
+-- what every bump allocator keeps: no more bytes are used than there are, and these are within the limit of memory
 pub record IsSoundBump (bump : Bump) : Type 0 where
   pub used : bump.used ≤ bump.total
-  pub total : bump.total ≤ 2 ^ 56
+  pub total : bump.total ≤ max_memory_size
 
 -- a new bump allocator: no byte is used, and `init` is still to be called
 abbrev pub new_bump : ℕ → ℕ → Bump

@@ -1,5 +1,5 @@
 -- The laws of allocators, at a bump allocator.
-use Rattle.std.proofs.Common.{◌≡◌, ℕ, ◌+◌, ◌%◌, ◌^◌, ◌<◌, ◌≤◌, IsTrue, nat_le, true, Some, None, refl, ap, ◌∙◌, arith, ◌⊎◌, inl, inr}
+use Rattle.std.proofs.Common.{◌≡◌, ℕ, ◌+◌, ◌%◌, ◌<◌, ◌≤◌, IsTrue, nat_le, true, Some, None, refl, ap, ◌∙◌, arith, ◌⊎◌, inl, inr}
 use Rattle.std.proofs.lemmas.Bool.{cases_lt}
 use Rattle.cal_alloc.specs.Chunks.{chunk_size, IsInChunk, TakesChunk, IsNew, IsInitialized, IsAllocation, IsDeallocation}
 use Rattle.std.specs.Int.{is_power_of_two}
@@ -9,6 +9,7 @@ use Rattle.cal_alloc.specs.PointerOffset.{offset_of}
 use Rattle.cal_alloc.specs.SizeAndAlignment.{SizeAndAlignment}
 use Rattle.cal_alloc.specs.Bump.{Bump, IsSoundBump, new_bump, next_offset, bump_refusal, bump_properties, GivesNextOffset, IsBelowUsed, IsAllocatedBelowUsed, IsPaddingBefore}
 use Rattle.cal_alloc.specs.declared.shm_allocator.ShmAllocationError.TheVariants.{SizeIsZero}
+use Rattle.cal_alloc.specs.Limits.{max_memory_size}
 
 -- ---- a new bump allocator
 
@@ -138,6 +139,6 @@ bump_aligned old layout pointer new served power gives =
     let multiple = next_multiple_of-multiple old.used layout.alignment positive in
     whole_multiple multiple.0 layout.alignment (offset_of pointer) positive (start.0 ∙ multiple.1)
 
--- a bump allocator is for at most 2 ^ 56 bytes
-pub bump_fits_limit : (size : ℕ) → IsTrue (nat_le size (2 ^ 56)) → size ≤ 2 ^ 56
+-- a bump allocator is within the limit of memory
+pub bump_fits_limit : (size : ℕ) → IsTrue (nat_le size max_memory_size) → size ≤ max_memory_size
 bump_fits_limit size fits = grind arith

@@ -1,5 +1,5 @@
 -- How the words of a chain of free buckets are seen: as a mark for each bucket.
-use Rattle.std.specs.Prelude.{ℕ, zero, suc, ◌+◌, ◌-◌, ◌≤◌, ◌≡◌, Bool, true, false, List, [], ◌∷◌, ◌++◌, length, get_or, set, replicate, Option, Some, None, Vec, vec_capacity, is_some}
+use Rattle.std.specs.Prelude.{ℕ, zero, suc, ◌-◌, ◌≤◌, ◌≡◌, Bool, true, false, List, [], ◌∷◌, ◌++◌, length, get_or, set, replicate, Option, Some, None, Vec, vec_capacity, is_some}
 use Rattle.std.specs.declared.alloc.Global.{Global}
 use Rattle.cal_alloc.specs.FreeBuckets.{BucketMarks}
 use Rattle.cal_alloc.specs.declared.free_buckets.FreeBuckets.TheInside.{Inside}

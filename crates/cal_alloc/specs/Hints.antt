@@ -1,7 +1,7 @@
 -- What memory an allocator proposes: a payload size, and the configuration to go with it; None where that is out of
 -- range.
 use Rattle.std.specs.Prelude.{ℕ, ◌+◌, ◌*◌, ◌^◌, ◌-◌, Bool, ◌&&◌, nat_lt, nat_le, if◌then◌else◌, Option, Some, None}
-use Rattle.cal_alloc.specs.Growth.{padded_size, grown_buckets, least_power_of_two}
+use Rattle.cal_alloc.specs.Growth.{SegmentLayout, padded_size, grown_buckets, least_power_of_two}
 use Rattle.cal_alloc.specs.SizeAndAlignment.{SizeAndAlignment}
 use Rattle.cal_alloc.specs.Pool.{Pool, is_full}
 use Rattle.cal_alloc.specs.Bump.{Bump}
@@ -10,10 +10,11 @@ use Rattle.cal_alloc.specs.declared.allocation_strategy.AllocationStrategy.TheVa
 use Rattle.cal_alloc.specs.declared.shm_allocator.SharedMemorySetupHint.{SharedMemorySetupHint}
 use Rattle.cal_alloc.specs.declared.pool_allocator.Config as PoolConfig
 use Rattle.cal_alloc.specs.declared.bump_allocator.Config as BumpConfig
+use Rattle.cal_alloc.specs.Limits.{max_memory_size, bucket_limit}
 
--- so many buckets of this padded size: at most 2 ^ 56 bytes, fewer than 2 ^ 32 buckets of fewer than 2 ^ 64 bytes each
+-- so many buckets of this padded size are within the limits: of all bytes, of buckets, and of the bytes of one bucket
 abbrev pub is_in_range : ℕ → ℕ → Bool
-is_in_range size count = nat_le (size * count) (2 ^ 56) && (nat_lt count (2 ^ 32) && nat_lt size (2 ^ 64))
+is_in_range size count = nat_le (size * count) max_memory_size && (nat_lt count bucket_limit && nat_lt size (2 ^ 64))
 
 -- memory for so many buckets of that layout, whose size is padded to the alignment
 abbrev pub pool_setup_hint : SizeAndAlignment → ℕ → Option (SharedMemorySetupHint PoolConfig.Config)
@@ -26,16 +27,21 @@ pool_setup_hint layout count =
     })
     else None
 
+-- the buckets that a strategy takes next for a pool that doesn't serve this layout
+abbrev pub buckets_after : AllocationStrategy → Pool → SizeAndAlignment → SegmentLayout
+buckets_after strategy pool layout =
+    grown_buckets strategy pool.buckets (is_full pool) layout.size layout.alignment
+
 -- memory for the buckets that a strategy takes next
 abbrev pub pool_resize_hint : Pool → SizeAndAlignment → AllocationStrategy →
     Option (SharedMemorySetupHint PoolConfig.Config)
 pool_resize_hint pool layout strategy =
-    let grown = grown_buckets strategy pool.buckets (is_full pool) layout.size layout.alignment in
+    let grown = buckets_after strategy pool layout in
     pool_setup_hint (record { size = grown.size; alignment = grown.alignment }) grown.count
 
--- memory of this size; out of range above 2 ^ 56 bytes
+-- memory of this size, where that is within the limit
 abbrev pub bump_hint : ℕ → Option (SharedMemorySetupHint BumpConfig.Config)
-bump_hint size = if nat_le size (2 ^ 56) then Some (record { payload_size = size; config = record {} }) else None
+bump_hint size = if nat_le size max_memory_size then Some (record { payload_size = size; config = record {} }) else None
 
 -- what a strategy makes of a payload that has no room for a chunk of this size
 abbrev pub raised_payload : AllocationStrategy → ℕ → ℕ → ℕ

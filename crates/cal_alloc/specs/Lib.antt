@@ -5,6 +5,7 @@ pub mod FreeBuckets
 pub mod FreeChain
 pub mod Growth
 pub mod Hints
+pub mod Limits
 pub mod Multiples
 pub mod PointerOffset
 pub mod Pool

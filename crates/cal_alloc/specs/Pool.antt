@@ -9,6 +9,7 @@ use Rattle.cal_alloc.specs.SizeAndAlignment.{SizeAndAlignment}
 use Rattle.cal_alloc.specs.PointerOffset.{pointer_offset, offset_of}
 use Rattle.cal_alloc.specs.declared.shm_allocator.ShmAllocationError.{ShmAllocationError}
 use Rattle.cal_alloc.specs.declared.shm_allocator.ShmAllocationError.TheVariants.{ExceedsMaxSupportedAlignment, SizeTooLarge, OutOfMemory}
+use Rattle.cal_alloc.specs.Limits.{max_memory_size, bucket_limit}
 
 -- its buckets, the greatest alignment that its memory gives, a mark for each bucket that says whether it's used, and
 -- whether `init` has answered Ok
@@ -26,13 +27,13 @@ buckets_within memory_size layout = record {
   count = memory_size / bucket_size_of layout.size layout.alignment;
 }
 
--- memory of this size can be cut into such buckets: at most 2 ^ 56 bytes, buckets below 2 ^ 64 bytes, and fewer than
--- 2 ^ 32 of them
+-- memory of this size can be cut into such buckets: the limits of all bytes, of the bytes of one bucket and of buckets
+-- are kept
 abbrev pub pool_fits : ℕ → SizeAndAlignment → Bool
 pool_fits memory_size layout =
-    nat_le memory_size (2 ^ 56) &&
-    (nat_lt (buckets_within memory_size layout).size (2 ^ 64) && nat_lt (buckets_within memory_size layout).count
-    (2 ^ 32))
+    nat_le memory_size max_memory_size &&
+    (nat_lt (buckets_within memory_size layout).size (2 ^ 64) &&
+    nat_lt (buckets_within memory_size layout).count bucket_limit)
 
 -- a new pool: every bucket is free, and `init` is still to be called
 abbrev pub new_pool : ℕ → ℕ → SizeAndAlignment → Pool
@@ -75,14 +76,14 @@ pool_refusal pool layout =
     else if is_full pool then Some OutOfMemory
     else None
 
--- what every pool keeps: buckets of at least one byte, a multiple of their alignment, all within 2 ^ 56 bytes, fewer
--- than 2 ^ 32 of them, and one mark for each
+-- what every pool keeps: buckets of at least one byte, a multiple of their alignment, within the limits of memory, and
+-- one mark for each
 pub record IsSoundPool (pool : Pool) : Type 0 where
   pub not_empty : 0 < pool.buckets.size
   pub power : IsTrue (is_power_of_two pool.buckets.alignment)
   pub padded : next_multiple_of pool.buckets.size pool.buckets.alignment ≡ pool.buckets.size
-  pub within : pool.buckets.count * pool.buckets.size ≤ 2 ^ 56
-  pub few : pool.buckets.count < 2 ^ 32
+  pub within : pool.buckets.count * pool.buckets.size ≤ max_memory_size
+  pub few : pool.buckets.count < bucket_limit
   pub marked : length pool.used ≡ pool.buckets.count
 
 -- the new pool is the old one, but a bucket that was free is used: the one that starts at the pointer, in segment 0

@@ -12,6 +12,7 @@ use Rattle.cal_alloc.specs.PointerOffset.{offset_of}
 use Rattle.cal_alloc.specs.SizeAndAlignment.{SizeAndAlignment}
 use Rattle.cal_alloc.specs.Pool.{Pool, IsSoundPool, pool_fits, new_pool, offset_of_bucket, bucket_of, pool_refusal, pool_properties, GivesFreeBucket, FreesBucket, IsUsedBucket, IsInUsedBucket}
 use Rattle.cal_alloc.specs.declared.shm_allocator.ShmAllocationError.TheVariants.{SizeIsZero}
+use Rattle.cal_alloc.specs.Limits.{max_memory_size}
 
 -- ---- the bucket of a byte
 
@@ -263,6 +264,6 @@ pool_aligned old layout pointer new served power gives =
     times : (bucket k parts power : ℕ) → bucket * (k * (parts * power)) ≡ bucket * (k * parts) * power
     times bucket k parts power = grind arith
 
--- a pool is for at most 2 ^ 56 bytes
-pub pool_fits_limit : (size : ℕ) (layout : SizeAndAlignment) → IsTrue (pool_fits size layout) → size ≤ 2 ^ 56
+-- a pool is within the limit of memory
+pub pool_fits_limit : (size : ℕ) (layout : SizeAndAlignment) → IsTrue (pool_fits size layout) → size ≤ max_memory_size
 pool_fits_limit size layout fits = grind arith

@@ -10,8 +10,7 @@ pub record OutChunk : Type 0 where
   pub pointer : ℕ
 
 -- a step of a run: a chunk of this layout is given out at this pointer, or the chunk at this index of those that are
--- out, the
--- last one given out first, is given back
+-- out, the last one given out first, is given back
 pub data Step : Type 0 where
   gives : SizeAndAlignment → ℕ → Step
   takes_back : ℕ → Step

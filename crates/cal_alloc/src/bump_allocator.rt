@@ -7,13 +7,15 @@ ghost use Rattle.std.specs.Result.{result_ok};
 ghost use Rattle.cal_alloc.specs.Bump.{IsSoundBump, new_bump, bump_refusal, GivesNextOffset, IsBelowUsed, IsAllocatedBelowUsed, IsPaddingBefore, bump_properties};
 ghost use Rattle.cal_alloc.specs.BumpLaws.{new_bump-IsNew, initialized_bump-IsInitialized, GivesNextOffset-IsAllocation, same-IsDeallocation, bump_used_below_total, bump_served, bump_aligned, bump_fits_limit, bump_refused_empty};
 ghost use Rattle.cal_alloc.specs.Hints.{bump_hint, bump_resize_hint, raised_payload};
+ghost use Rattle.cal_alloc.specs.Limits.{max_memory_size};
 
 use crate::allocation_strategy::AllocationStrategy;
 use crate::growth::least_power_of_two;
 use crate::layout::Layout;
+use crate::limits::MAX_MEMORY_SIZE;
 use crate::pointer_offset::PointerOffset;
 use crate::shm_allocator::{
-    MAX_MEMORY_SIZE, SharedMemorySetupHint, ShmAllocationError, ShmAllocator, ShmAllocatorConfig,
+    SharedMemorySetupHint, ShmAllocationError, ShmAllocator, ShmAllocatorConfig,
     ShmAllocatorInitError, SizeOutOfRange,
 };
 use std::alloc::Global;
@@ -75,7 +77,12 @@ impl Model for BumpAllocator {
         record { total = a.total; used = a.used; memory_alignment = a.memory_alignment; is_ready = a.is_ready } };
 
     ghost invariant = { λ a.
-        IsSoundBump (record { total = a.total; used = a.used; memory_alignment = a.memory_alignment; is_ready = a.is_ready }) };
+        IsSoundBump (record {
+          total = a.total;
+          used = a.used;
+          memory_alignment = a.memory_alignment;
+          is_ready = a.is_ready;
+        }) };
 }
 
 impl BumpAllocator {
@@ -94,7 +101,7 @@ impl ShmAllocator for BumpAllocator {
 
     ghost growth_raises_alignment = { false };
 
-    ghost fits = { λ memory_size _. nat_le memory_size (2 ^ 56) };
+    ghost fits = { λ memory_size _. nat_le memory_size max_memory_size };
 
     ghost management_size = { λ _ _. 0 };
 

@@ -9,6 +9,7 @@ mod free_buckets;
 mod growth;
 pub mod laws;
 mod layout;
+mod limits;
 mod pointer_offset;
 pub mod pool_allocator;
 mod shm_allocator;
@@ -16,6 +17,7 @@ mod shm_allocator;
 pub use allocation_strategy::AllocationStrategy;
 pub use bump_allocator::BumpAllocator;
 pub use layout::Layout;
+pub use limits::{MAX_MEMORY_ALIGNMENT, MAX_MEMORY_SIZE, MAX_NUMBER_OF_BUCKETS};
 pub use pointer_offset::{PointerOffset, SegmentId, SegmentIdUnderlyingType};
 pub use pool_allocator::PoolAllocator;
 pub use shm_allocator::{

@@ -1,5 +1,6 @@
 //! Offsets and segments as one number. Ported from `shm_allocator/pointer_offset.rs` of iceoryx2-cal 0.9.3.
 ghost use Rattle.std.specs.Prelude.{◌≡◌, ◌<◌, ◌^◌, ◌*◌, ◌+◌, ◌/◌};
+ghost use Rattle.cal_alloc.specs.Limits.{max_memory_size};
 ghost use Rattle.cal_alloc.specs.PointerOffset.{pointer_offset, offset_of, segment_of};
 
 use std::fmt;
@@ -63,7 +64,7 @@ impl Model for PointerOffset {
 impl PointerOffset {
     /// An offset in bytes within segment 0.
     pub fn new(offset: usize) -> Self
-        requires below { offset < 2 ^ 56 }
+        requires below { offset < max_memory_size }
         ensures value { result ≡ pointer_offset offset 0 }
     {
         Self::from_offset_and_segment_id(offset, SegmentId::new(0))
@@ -71,7 +72,7 @@ impl PointerOffset {
 
     /// An offset in bytes within a segment.
     pub fn from_offset_and_segment_id(offset: usize, segment_id: SegmentId) -> Self
-        requires below { offset < 2 ^ 56 }
+        requires below { offset < max_memory_size }
         ensures value { result ≡ pointer_offset offset segment_id }
         ensures offset_back { offset_of result ≡ offset }
         ensures segment_back { segment_of result ≡ segment_id }

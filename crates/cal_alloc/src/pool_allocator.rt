@@ -4,7 +4,7 @@
 
 ghost use Rattle.std.specs.Prelude.{◌≡◌, ◌<◌, ◌^◌, true, IsTrue, IsFalse, SomeIff, refl, if◌then◌else◌};
 ghost use Rattle.cal_alloc.specs.Growth.{bucket_size_of, grown_buckets, raised_count};
-ghost use Rattle.cal_alloc.specs.Hints.{pool_setup_hint, pool_resize_hint};
+ghost use Rattle.cal_alloc.specs.Hints.{pool_setup_hint, pool_resize_hint, buckets_after};
 ghost use Rattle.cal_alloc.specs.Pool.{IsSoundPool, pool_fits, buckets_within, new_pool, is_full, number_of_used, bucket_of, offset_of_bucket, pool_properties, pool_refusal, GivesFreeBucket, IsUsedBucket, IsInUsedBucket, after_deallocation, FreesBucket};
 ghost use Rattle.cal_alloc.specs.PointerOffset.{pointer_offset};
 ghost use Rattle.cal_alloc.specs.PoolLaws.{new_pool-IsNew, initialized_pool-IsInitialized, GivesFreeBucket-IsAllocation, FreesBucket-IsDeallocation, pool_used_below_total, pool_served, pool_aligned, pool_fits_limit, pool_refused_empty};
@@ -13,16 +13,14 @@ use crate::allocation_strategy::AllocationStrategy;
 use crate::free_buckets::FreeBuckets;
 use crate::growth::{raised_count, raised_size};
 use crate::layout::Layout;
+use crate::limits::{MAX_MEMORY_SIZE, MAX_NUMBER_OF_BUCKETS};
 use crate::pointer_offset::PointerOffset;
 use crate::shm_allocator::{
-    MAX_MEMORY_SIZE, SharedMemorySetupHint, ShmAllocationError, ShmAllocator, ShmAllocatorConfig,
+    SharedMemorySetupHint, ShmAllocationError, ShmAllocator, ShmAllocatorConfig,
     ShmAllocatorInitError, SizeOutOfRange,
 };
 use std::alloc::Global;
 use std::marker::Model;
-
-/// A pool has fewer than 2^32 buckets.
-const MAX_NUMBER_OF_BUCKETS: usize = (1 << 32) - 1;
 
 /// The size of a bucket for that layout: at least one byte, rounded up to the alignment; `None` from 2^64 on.
 fn bucket_size(layout: Layout) -> Option<usize>
@@ -134,7 +132,7 @@ impl PoolAllocator {
     /// The layout of the buckets that the strategy takes next; `None` where their size would be 2^64 or more.
     fn raised_layout(&self, layout: Layout, strategy: AllocationStrategy) -> Option<Layout>
         ensures sound { IsSoundPool self.now }
-        ensures value { let grown = grown_buckets strategy self.now.buckets (is_full self.now) layout.size layout.alignment in
+        ensures value { let grown = buckets_after strategy self.now layout in
             SomeIff result (grown.size < 2 ^ 64) (record { size = grown.size; alignment = grown.alignment }) }
     {
         if strategy == AllocationStrategy::Static {

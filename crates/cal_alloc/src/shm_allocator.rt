@@ -9,6 +9,7 @@ ghost use Rattle.std.specs.Prelude.{◌≡◌, ◌≢◌, ◌<◌, ◌≤◌, �
 ghost use Rattle.std.specs.Int.{is_power_of_two};
 ghost use Rattle.std.specs.Result.{result_ok, result_err};
 ghost use Rattle.cal_alloc.specs.Chunks.{Properties, chunk_size, IsNew, IsInitialized, IsAllocation, IsDeallocation};
+ghost use Rattle.cal_alloc.specs.Limits.{max_memory_size};
 ghost use Rattle.cal_alloc.specs.PointerOffset.{offset_of};
 ghost use Rattle.cal_alloc.specs.SizeAndAlignment.{SizeAndAlignment};
 ghost use Rattle.cal_alloc.specs.declared.allocation_strategy.AllocationStrategy.{AllocationStrategy};
@@ -21,9 +22,6 @@ use crate::pointer_offset::PointerOffset;
 use std::alloc::Global;
 use std::fmt::Debug;
 use thiserror::Error;
-
-/// The memory of an allocator has at most that many bytes, so that each offset in it is below 2^56.
-pub(crate) const MAX_MEMORY_SIZE: usize = 1 << 56;
 
 /// Why an allocator refuses to hand out a chunk. The allocator is as before.
 #[derive(Clone, Copy, PartialEq, Eq, Debug, Error)]
@@ -223,19 +221,20 @@ pub trait ShmAllocator: Debug + Drop {
 
     ghost allocation: { (old : Self) (layout : SizeAndAlignment) (pointer : ℕ) (new : Self) →
         Allocates old layout pointer new →
-        IsAllocation (properties old) (properties new) (IsByteUsed old) (IsByteUsed new) (IsAllocated old) (IsAllocated new)
-        (IsPadding old pointer) layout pointer };
+        IsAllocation (properties old) (properties new) (IsByteUsed old) (IsByteUsed new)
+        (IsAllocated old) (IsAllocated new) (IsPadding old pointer) layout pointer };
 
     ghost deallocation: { (old : Self) (pointer : ℕ) (new : Self) → Deallocates old pointer new →
-        IsDeallocation (properties old) (properties new) (IsByteUsed old) (IsByteUsed new) (IsAllocated old) (IsAllocated new)
-        pointer };
+        IsDeallocation (properties old) (properties new) (IsByteUsed old) (IsByteUsed new)
+        (IsAllocated old) (IsAllocated new) pointer };
 
     // The first byte of a chunk that is out is used.
     ghost allocated_is_used: { (old : Self) (pointer : ℕ) → IsAllocated old pointer →
         IsByteUsed old (offset_of pointer) };
 
     // Each used byte is one of the allocator's.
-    ghost used_below_total: { (old : Self) (byte : ℕ) → IsSound old → IsByteUsed old byte → byte < (properties old).total };
+    ghost used_below_total: { (old : Self) (byte : ℕ) →
+        IsSound old → IsByteUsed old byte → byte < (properties old).total };
 
     // A chunk that is given out for a layout is large enough.
     ghost served: { (old : Self) (layout : SizeAndAlignment) →
@@ -246,8 +245,9 @@ pub trait ShmAllocator: Debug + Drop {
         refusal old layout ≡ None → IsTrue (is_power_of_two layout.alignment) → Allocates old layout pointer new →
         offset_of pointer % layout.alignment ≡ 0 };
 
-    // No allocator is for more than 2 ^ 56 bytes.
-    ghost fits_limit: { (size : ℕ) (config : Self.Configuration) → IsTrue (fits size config) → size ≤ 2 ^ 56 };
+    // What fits is within the limit of memory.
+    ghost fits_limit: { (size : ℕ) (config : Self.Configuration) →
+        IsTrue (fits size config) → size ≤ max_memory_size };
 
     // The memory for one chunk of one byte is one byte.
     ghost hint_of_one_byte: { IsSomeAnd (initial_setup_hint (record { size = 1; alignment = 1 }) 1)

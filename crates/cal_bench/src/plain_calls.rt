@@ -1,5 +1,5 @@
-//! Calls that one thread makes alone: a chunk of a pool got and freed, a value pushed into a queue and popped, and a number
-//! put into a used list and taken out.
+//! Calls that one thread makes alone: a chunk of a pool got and freed, a value pushed into a queue and popped, and a
+//! number put into a used list and taken out.
 ghost use Rattle.std.specs.Prelude.{◌≡◌, IsTrue, IfOk, OnErr};
 
 use cal_alloc::pool_allocator::Config;

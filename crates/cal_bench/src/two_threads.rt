@@ -45,10 +45,10 @@ pub fn send_and_take<R: Threads + Wait + Sync>(
     let (send, take) = join(
         rt,
         || -> SendSeat
-            ensures { SameSendEnd send result }
+            ensures sent { SameSendEnd send result }
         { send_all(send, count) },
         || -> TakeSeat
-            ensures { SameTakeEnd take result }
+            ensures taken { SameTakeEnd take result }
         { take_to_last(rt, take, last) },
     );
     Ok(rest(send, take))

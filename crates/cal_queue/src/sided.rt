@@ -5,7 +5,7 @@ ghost use Rattle.std.specs.Prelude.{true, false};
 
 use atomic_table::Split;
 
-// No value of it is made. A view with no flag is spent, and nothing is said of its passes.
+/// No value of it is made. A view with no flag is spent, and nothing is said of its passes.
 pub struct Sided<P, Q> {
     // Whether the writing side is in hand; only then does `writer` count.
     pub writes: bool,
@@ -17,7 +17,7 @@ pub struct Sided<P, Q> {
     pub reader: Q,
 }
 
-// The writing side stays, and the reading side goes to a seat of its own.
+/// The writing side stays, and the reading side goes to a seat of its own.
 pub struct Parting;
 
 impl<P, Q> Split<Sided<P, Q>> for Parting {

@@ -1,6 +1,7 @@
 -- Why a segment isn't created or opened.
 use Rattle.std.specs.Prelude.{ℕ, ◌^◌, Bool, not, nat_lt, ◌==◌, Option, Some, None, is_some, List, length, if◌then◌else◌}
 use Rattle.std.specs.Option.{option_map, option_or}
+use Rattle.cal_alloc.specs.Limits.{max_memory_alignment}
 use Rattle.cal_names.specs.ConceptSettings.{ConceptSettings, file_path_for}
 use Rattle.cal_storage.specs.Contents.{Contents, id_at, value_at}
 use Rattle.cal_storage.specs.Plan.{StoragePlan}
@@ -14,10 +15,6 @@ use Rattle.cal_shm.specs.declared.errors.SharedMemoryCreateError.TheVariants as 
 use Rattle.cal_shm.specs.declared.errors.SharedMemoryOpenError.{SharedMemoryOpenError}
 use Rattle.cal_shm.specs.declared.errors.SharedMemoryOpenError.TheVariants as open_error
 
--- the greatest alignment that the memory of a segment gives, in bytes
-abbrev pub memory_alignment : ℕ
-memory_alignment = 4096
-
 -- the refusal of a storage's opening, by the same name
 abbrev pub opening_error : DynamicStorageOpenError → SharedMemoryOpenError
 opening_error storage.DoesNotExist = open_error.DoesNotExist
@@ -28,7 +25,7 @@ opening_error storage.PathTooLong = open_error.PathTooLong
 
 -- why no allocator serves the memory of a segment: it needs a greater alignment
 abbrev pub alignment_refusal : ℕ → Option SharedMemoryCreateError
-alignment_refusal max_alignment = if nat_lt memory_alignment max_alignment then Some create.InternalError else None
+alignment_refusal max_alignment = if nat_lt max_memory_alignment max_alignment then Some create.InternalError else None
 
 module _ {A : Type 0} where
   -- why nothing is created under a name: its path would be too long, or stands for an entry already
@@ -39,7 +36,7 @@ module _ {A : Type 0} where
       else None
 
   -- why no segment is created by a plan, the first cause that holds: `fits` says whether there can be an allocator for
-  -- that many bytes, which are at most 2 ^ 56 then, and `max_alignment` is the alignment that it needs
+  -- that many bytes, which are within the limit of memory then, and `max_alignment` is the alignment that it needs
   abbrev pub create_refusal : Bool → ℕ → Contents (Segment A) → SegmentPlan → Option SharedMemoryCreateError
   create_refusal fits max_alignment contents plan =
       if plan.options.size == 0 then Some create.SizeIsZero

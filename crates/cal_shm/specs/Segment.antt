@@ -1,17 +1,18 @@
 -- A segment of memory: its allocator, and the bytes of its payload.
 use Rattle.std.specs.Prelude.{ℕ, ◌≤◌, ◌^◌, IsTrue, List, ◌++◌, length, take, drop, replicate}
 use Rattle.cal_alloc.specs.Chunks.{Properties}
+use Rattle.cal_alloc.specs.Limits.{max_memory_size}
 
 pub record Segment (A : Type 0) : Type 0 where
   pub allocator : A
   pub payload : List ℕ
 
--- What every stored segment keeps: its allocator serves, and manages no byte past the payload, which has at most 2 ^
--- 56.
+-- What every stored segment keeps: its allocator serves, and manages no byte past the payload, which is within the
+-- limit of memory.
 pub record IsServed (properties : Properties) (size : ℕ) : Type 0 where
   pub ready : IsTrue properties.is_ready
   pub within : properties.total ≤ size
-  pub limit : size ≤ 2 ^ 56
+  pub limit : size ≤ max_memory_size
 
 -- bytes with others written over them from an offset on; the number of bytes stays
 abbrev pub overwritten : List ℕ → ℕ → List ℕ → List ℕ

@@ -2,6 +2,7 @@
 ghost use Rattle.std.specs.Prelude.{◌≡◌, ◌+◌, ◌≤◌, ◌^◌, IsTrue, IsErrOf, IfOk, IfErr, OnErr, length, slice_range};
 ghost use Rattle.std.specs.Result.{result_err};
 ghost use Rattle.std.specs.Borrow.{sem};
+ghost use Rattle.cal_alloc.specs.Limits.{max_memory_size};
 ghost use Rattle.cal_alloc.specs.Pool.{IsUsedBucket, FreesBucket};
 ghost use Rattle.cal_alloc.specs.PointerOffset.{offset_of};
 ghost use Rattle.cal_shm.specs.Calls.{IsInPayload, IsChunkWithin};
@@ -68,7 +69,7 @@ impl<A: ShmAllocator> AllocatorDetails<A> {
     pub(crate) fn new(allocator: A, payload: Vec<u8>) -> Self
         requires ready { IsTrue (A.properties allocator).is_ready }
         requires within { (A.properties allocator).total ≤ length payload.items }
-        requires limit { length payload.items ≤ 2 ^ 56 }
+        requires limit { length payload.items ≤ max_memory_size }
         ensures { result ≡ record { allocator = allocator; payload = payload.items } }
     {
         AllocatorDetails { allocator, payload }

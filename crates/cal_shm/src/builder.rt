@@ -1,9 +1,10 @@
 //! The builder of memory segments. Ported from `shared_memory/common.rs` of iceoryx2-cal 0.9.3.
 ghost use Rattle.std.specs.Prelude.{◌≡◌, ◌≤◌, ◌^◌, ◌<◌, ◌⊎◌, IsTrue, IsErrOf, IfOk, IfErr, ◌↔◌, refl};
 ghost use Rattle.std.specs.Result.{result_err};
+ghost use Rattle.cal_alloc.specs.Limits.{max_memory_alignment};
 ghost use Rattle.cal_names.specs.ConceptSettings.{settings_of};
 ghost use Rattle.cal_shm.specs.Plan.{default_options, storage_plan};
-ghost use Rattle.cal_shm.specs.Refusals.{memory_alignment, name_refusal};
+ghost use Rattle.cal_shm.specs.Refusals.{name_refusal};
 ghost use Rattle.cal_shm.specs.Segment.{new_segment};
 
 use crate::allocator_details::AllocatorDetails;
@@ -12,14 +13,11 @@ use crate::errors::{SharedMemoryCreateError, SharedMemoryOpenError, opening_erro
 use crate::memory::Memory;
 use crate::options::SharedMemoryOptions;
 use crate::shared_memory::SharedMemoryBuilder;
-use cal_alloc::{ShmAllocator, ShmAllocatorInitError};
+use cal_alloc::{MAX_MEMORY_ALIGNMENT, ShmAllocator, ShmAllocatorInitError};
 use cal_names::{FileName, NamedConceptBuilder, NamedConceptConfiguration};
 use cal_storage::{AccessMode, DynamicStorage, DynamicStorageBuilder, Registry};
 use std::alloc::Global;
 use std::marker::PhantomData;
-
-/// The greatest alignment that the memory of a segment gives, in bytes.
-const MEMORY_ALIGNMENT: usize = 4096;
 
 /// A builder of memory segments of an allocator in a storage.
 #[derive_where(Debug)]
@@ -101,13 +99,13 @@ fn new_details<A: ShmAllocator>(
 ) -> Result<AllocatorDetails<A>, SharedMemoryCreateError>
     requires fits { IsTrue (A.fits size config.now) }
     ensures insufficient { IsErrOf result SharedMemoryCreateError.InternalError
-        ↔ (memory_alignment < (A.properties (A.new_uninit memory_alignment size config.now)).max_alignment) }
+        ↔ (max_memory_alignment < (A.properties (A.new_uninit max_memory_alignment size config.now)).max_alignment) }
     ensures error { IfErr result (λ error. (error ≡ SharedMemoryCreateError.InternalError)
         ⊎ (error ≡ SharedMemoryCreateError.NoMemory)) }
     ensures created { IfOk result (λ details. details
-        ≡ new_segment (A.after_init (A.new_uninit memory_alignment size config.now)) size) }
+        ≡ new_segment (A.after_init (A.new_uninit max_memory_alignment size config.now)) size) }
 {
-    let mut allocator = A::new_uninit(MEMORY_ALIGNMENT, size, config);
+    let mut allocator = A::new_uninit(MAX_MEMORY_ALIGNMENT, size, config);
     match allocator.init(alloc) {
         Ok(()) => {}
         Err(ShmAllocatorInitError::MaxSupportedMemoryAlignmentInsufficient) => {

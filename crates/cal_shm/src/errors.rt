@@ -17,7 +17,7 @@ pub enum SharedMemoryCreateError {
     /// Kept by name, and never answered.
     #[error("SharedMemoryCreateError::InsufficientPermissions")]
     InsufficientPermissions,
-    /// The allocator needs a greater alignment than memory gives, which is 4096.
+    /// The allocator needs a greater alignment than memory gives, which is `MAX_MEMORY_ALIGNMENT`.
     #[error("SharedMemoryCreateError::InternalError")]
     InternalError,
     /// There can be no allocator for that many bytes; none is for more than 2^56.

@@ -4,6 +4,7 @@
 ghost use Rattle.std.specs.Prelude.{◌≡◌, ◌+◌, ◌≤◌, ℕ, Bool, true, false, Option, Some, None, IfSome, IfOk, IfErr, OnOk, OnErr, ◌⊎◌, codes, length, slice_range};
 ghost use Rattle.std.specs.Map.{keys_of};
 ghost use Rattle.std.specs.Result.{result_err};
+ghost use Rattle.cal_alloc.specs.Limits.{max_memory_alignment};
 ghost use Rattle.cal_alloc.specs.Pool.{IsUsedBucket, FreesBucket};
 ghost use Rattle.cal_alloc.specs.PointerOffset.{offset_of};
 ghost use Rattle.cal_names.specs.ConceptSettings.{extracted_name_at};
@@ -15,7 +16,7 @@ ghost use Rattle.cal_storage.specs.Refusals.{finished_version, has_name, after_n
 ghost use Rattle.cal_storage.specs.Soundness.{IsSound};
 ghost use Rattle.cal_shm.specs.Calls.{ChangesAllocator, OfValue, IsInPayload, IsChunkWithin};
 ghost use Rattle.cal_shm.specs.Plan.{path_of, default_options};
-ghost use Rattle.cal_shm.specs.Refusals.{memory_alignment, create_refusal, open_refusal};
+ghost use Rattle.cal_shm.specs.Refusals.{create_refusal, open_refusal};
 ghost use Rattle.cal_shm.specs.Segment.{Segment, new_segment};
 
 use crate::allocator_details::AllocatorDetails;
@@ -57,16 +58,16 @@ pub trait SharedMemoryBuilder<A: ShmAllocator, Shm: SharedMemory<A>>: Debug
         allocator_config: &A::Configuration,
     ) -> Result<Shm, SharedMemoryCreateError>
         ensures refused { let size = (Self.plan self).options.size in
-            let allocator = A.new_uninit memory_alignment size allocator_config.now in
+            let allocator = A.new_uninit max_memory_alignment size allocator_config.now in
             IfSome (create_refusal (A.fits size allocator_config.now) (A.properties allocator).max_alignment
             reg.old (Self.plan self)) (λ error. result ≡ Err error) }
         ensures error { let size = (Self.plan self).options.size in
-            let allocator = A.new_uninit memory_alignment size allocator_config.now in
+            let allocator = A.new_uninit max_memory_alignment size allocator_config.now in
             IfErr result (λ error. (create_refusal (A.fits size allocator_config.now)
             (A.properties allocator).max_alignment reg.old (Self.plan self) ≡ Some error)
             ⊎ (error ≡ SharedMemoryCreateError.NoMemory)) }
         ensures created { let size = (Self.plan self).options.size in
-            let allocator = A.after_init (A.new_uninit memory_alignment size allocator_config.now) in
+            let allocator = A.after_init (A.new_uninit max_memory_alignment size allocator_config.now) in
             OnOk result (reg.new ≡ after_creation reg.old (path_of (Self.plan self)) (new_segment allocator size)
             finished_version) }
         ensures free { OnOk result (id_at reg.old (path_of (Self.plan self)) ≡ None) }

@@ -4,10 +4,11 @@ use Rattle.std.specs.Prelude.{◌≡◌, ℕ, Bool, true}
 use Rattle.std.specs.Fn.{Mut, Called}
 use Rattle.std.specs.Borrow.{MutBor}
 use Rattle.cal_alloc.specs.Bump.{Bump, new_bump}
+use Rattle.cal_alloc.specs.Limits.{max_memory_alignment}
 
 -- the allocator that an initializer is shown: nothing of its room is taken, and `init` has answered Ok
 abbrev pub fresh_allocator : ℕ → Bump
-fresh_allocator room = record (new_bump 4096 room) { is_ready = true }
+fresh_allocator room = record (new_bump max_memory_alignment room) { is_ready = true }
 
 -- the calls of an initializer of type F: it takes a value and an allocator, and answers a test
 abbrev pub Calls : Type 0 → Type 0 → Type 1

@@ -12,6 +12,7 @@ ghost use Rattle.std.specs.Prelude.{◌≡◌, ◌≤◌, ◌^◌, ℕ, Bool, tr
 ghost use Rattle.std.specs.Borrow.{sem};
 ghost use Rattle.std.specs.Result.{result_err};
 ghost use Rattle.std.specs.Map.{keys_of};
+ghost use Rattle.cal_alloc.specs.Limits.{max_memory_size};
 ghost use Rattle.cal_names.specs.ConceptSettings.{extracted_name_at};
 ghost use Rattle.cal_names.specs.FilePath.{IsFilePath};
 ghost use Rattle.cal_storage.specs.Contents.{Contents, Handle, Has, id_at, value_of, value_at, new_handle, found_handle, after_opening, after_close};
@@ -59,7 +60,7 @@ pub trait DynamicStorageBuilder<T: NamedType, D: DynamicStorage<T>>: Debug
 
     /// The room in bytes that the initializer's allocator has; 0 by default.
     fn supplementary_size(self, value: usize) -> Self
-        requires { value ≤ 2 ^ 56 }
+        requires { value ≤ max_memory_size }
         ensures plan { Self.plan result ≡ record (Self.plan self) {
           options = record (Self.plan self).options { room = value };
         } };

@@ -3,6 +3,7 @@ ghost use Rattle.std.specs.Prelude.{◌≡◌, ◌≤◌, ◌^◌, true, IsSome,
 ghost use Rattle.std.specs.Borrow.{sem};
 ghost use Rattle.std.specs.Option.{option_copied, option_map};
 ghost use Rattle.std.specs.Result.{result_err};
+ghost use Rattle.cal_alloc.specs.Limits.{max_memory_size};
 ghost use Rattle.cal_storage.specs.Contents.{entry_in, slot_with_holder, slot_with_holder_less, slot_with_version, slot_if_used, slot_with_value};
 ghost use Rattle.cal_storage.specs.Initializer.{MayInitialize};
 ghost use Rattle.cal_storage.specs.SlotLends.{LendsValue};
@@ -98,7 +99,7 @@ impl<T> Slot<T> {
     ) -> bool
         requires there { IsSome (entry_in self.old) }
         requires callable { IfSome (entry_in self.old) (λ entry. MayInitialize F.FnMut initializer entry.value room) }
-        requires room { room ≤ 2 ^ 56 }
+        requires room { room ≤ max_memory_size }
         ensures { Finishes F.FnMut initializer room self.old result self.new }
     {
         match self {

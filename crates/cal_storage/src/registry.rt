@@ -13,6 +13,7 @@ ghost use Rattle.std.specs.BTreeMap.{insert_entry};
 ghost use Rattle.std.specs.Cmp.Lexicographic.{slice_cmp};
 ghost use Rattle.cal_names.specs.FilePath.{IsFilePath};
 ghost use Rattle.cal_names.specs.ConceptSettings.{file_name_for, file_path_for, extracted_name_at};
+ghost use Rattle.cal_alloc.specs.Limits.{max_memory_size};
 ghost use Rattle.cal_storage.specs.Contents.{is_id, is_path, Has, nothing_registered, id_at, entry_at, entry_of, value_of, value_at, after_creation, after_opening, after_close, with_version};
 ghost use Rattle.cal_storage.specs.Holding.{KeepsHandles};
 ghost use Rattle.cal_storage.specs.Managing.{goes_with};
@@ -225,7 +226,7 @@ impl<T: Drop> Registry<T> {
     ) -> Result<usize, DynamicStorageCreateError>
         requires path { IsFilePath path.now }
         requires callable { id_at self.old path.now ≡ None → MayInitialize F.FnMut initializer initial_value room }
-        requires room { room ≤ 2 ^ 56 }
+        requires room { room ≤ max_memory_size }
         ensures exists { IsErrOf result AlreadyExists ↔ IsSome (id_at self.old path.now) }
         ensures error { IfErr result (CreateFails F.FnMut (Some AlreadyExists) initializer initial_value room) }
         ensures id { IfOk result (λ id. id ≡ length self.old.slots) }
@@ -283,7 +284,7 @@ impl<T: Drop> Registry<T> {
         requires there { Has self.old handle.now }
         requires callable { IfSome (value_of self.old handle.now.id)
             (λ value. MayInitialize F.FnMut initializer value room) }
-        requires room { room ≤ 2 ^ 56 }
+        requires room { room ≤ max_memory_size }
         ensures finished { FinishesEntry F.FnMut initializer room self.old handle.now result self.new }
         ensures sound { IsSound self.old }
     {

@@ -13,7 +13,7 @@ use std::thread::{Threads, join};
 
 /// Puts all values, and tries again where the ring is full.
 fn put_all<R: Wait>(rt: &R, mut put: PutSeat, values: &[u64]) -> PutSeat
-    requires { (put_pass put).put ≡ [] }
+    requires unused { (put_pass put).put ≡ [] }
     ensures same_end { SamePutEnd put result }
     ensures put { (put_pass result).put ≡ values.now }
 {
@@ -78,12 +78,12 @@ pub fn put_and_get<R: Threads + Wait + Sync>(
     let (put, taken) = join(
         rt,
         || -> PutSeat
-            requires { (put_pass put).put ≡ [] }
-            ensures { SamePutEnd put result × ((put_pass result).put ≡ values.entry.now) }
+            requires unused { (put_pass put).put ≡ [] }
+            ensures put { SamePutEnd put result × ((put_pass result).put ≡ values.entry.now) }
         { put_all(rt, put, values) },
         || -> (GetSeat, Vec<u64>)
-            requires { ((get_pass get).got ≡ []) × (room.items ≡ []) × (count ≤ vec_capacity room) }
-            ensures { SameGetEnd get result.0 × ((get_pass result.0).got ≡ result.1.items)
+            requires unused { ((get_pass get).got ≡ []) × (room.items ≡ []) × (count ≤ vec_capacity room) }
+            ensures got { SameGetEnd get result.0 × ((get_pass result.0).got ≡ result.1.items)
                 × (vec_len result.1 ≡ count) }
         { get_all(rt, get, room, count) },
     );

@@ -91,12 +91,12 @@ pub fn add_from_two_threads<R: Threads + Wait + Sync>(
     let (first, mut second) = join(
         rt,
         || -> StateSeat
-            requires { (0 < (pass first).opening.channels) × ((pass first).steps ≡ []) }
-            ensures { (writes (pass result).steps ≡ times) × All (AddsOne 0) (pass result).steps }
+            requires unused { (0 < (pass first).opening.channels) × ((pass first).steps ≡ []) }
+            ensures adds { (writes (pass result).steps ≡ times) × All (AddsOne 0) (pass result).steps }
         { add_ones(rt, first, times) },
         || -> StateSeat
-            requires { (0 < (pass second).opening.channels) × ((pass second).steps ≡ []) }
-            ensures { (writes (pass result).steps ≡ times) × All (AddsOne 0) (pass result).steps
+            requires unused { (0 < (pass second).opening.channels) × ((pass second).steps ≡ []) }
+            ensures adds { (writes (pass result).steps ≡ times) × All (AddsOne 0) (pass result).steps
                 × (0 < (pass result).opening.channels) }
         { add_ones(rt, second, times) },
     );

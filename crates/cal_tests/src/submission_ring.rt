@@ -49,7 +49,7 @@ fn take_some<R: Wait>(
     mut take: TakeSeat,
     turns: u64,
 ) -> Result<(TakeSeat, Vec<u64>), AllocError>
-    requires { (take_pass take).received ≡ [] }
+    requires unused { (take_pass take).received ≡ [] }
     ensures same_ring { IfOk result (λ t. SameTakeEnd take t.0) }
     ensures taken { IfOk result (λ t. t.1.items ≡ map (λ entry. entry.1) (take_pass t.0).received) }
 {
@@ -91,13 +91,13 @@ pub fn send_and_take<R: Threads + Wait + Sync>(
     let (sent, took) = join(
         rt,
         || -> Result<(SendSeat, Vec<u64>), AllocError>
-            requires { ((send_pass send).sent ≡ []) × ((send_pass send).overflowed ≡ []) × (count < 2 ^ 64 - 1) }
-            ensures { IfOk result (λ s. SameSendEnd send s.0 × ((send_pass s.0).sent ≡ range_with_len 0 count)
+            requires unused { ((send_pass send).sent ≡ []) × ((send_pass send).overflowed ≡ []) × (count < 2 ^ 64 - 1) }
+            ensures sent { IfOk result (λ s. SameSendEnd send s.0 × ((send_pass s.0).sent ≡ range_with_len 0 count)
                 × (s.1.items ≡ map (λ entry. entry.1) (send_pass s.0).overflowed)) }
         { send_all(alloc, send, count) },
         || -> Result<(TakeSeat, Vec<u64>), AllocError>
-            requires { (take_pass take).received ≡ [] }
-            ensures { IfOk result (λ t. SameTakeEnd take t.0
+            requires unused { (take_pass take).received ≡ [] }
+            ensures taken { IfOk result (λ t. SameTakeEnd take t.0
                 × (t.1.items ≡ map (λ entry. entry.1) (take_pass t.0).received)) }
         { take_some(rt, alloc, take, count) },
     );

@@ -4,6 +4,7 @@ use Rattle.std.specs.Int.{is_power_of_two}
 use Rattle.cal_alloc.specs.declared.allocation_strategy.AllocationStrategy.{AllocationStrategy}
 use Rattle.cal_alloc.specs.declared.allocation_strategy.AllocationStrategy.TheVariants.{BestFit, PowerOfTwo, Static}
 use Rattle.cal_alloc.specs.Growth.{SegmentLayout, fits_bucket, grown_buckets}
+use Rattle.cal_alloc.specs.Limits.{max_memory_alignment}
 use Rattle.cal_transport.specs.declared.reply.Refusal.{Refusal}
 use Rattle.cal_transport.specs.declared.reply.Refusal.TheVariants.{BadLayout, ExceedsMaxSupportedAlignment, SizeTooLarge, OutOfMemory, MaxReallocationsReached, SizeOutOfRange, InternalError}
 use Rattle.cal_transport.specs.Settings.{is_too_large}
@@ -46,7 +47,7 @@ abbrev pub growth_cause : CurrentSegment → SegmentLayout → Option Refusal
 growth_cause segment next =
     if segment.number == 255 then Some MaxReallocationsReached
     else if is_too_large next then Some SizeOutOfRange
-    else if nat_lt 4096 next.alignment then Some InternalError
+    else if nat_lt max_memory_alignment next.alignment then Some InternalError
     else None
 
 -- the first cause against a loan that holds

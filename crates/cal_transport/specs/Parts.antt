@@ -1,5 +1,6 @@
 -- What a transport is made of, and when its parts show a ledger.
 use Rattle.std.specs.Prelude.{ℕ, ◌+◌, ◌-◌, ◌*◌, ◌^◌, ◌<◌, ◌≤◌, ◌≡◌, Bool, true, false, ◌||◌, ◌==◌, if◌then◌else◌, length, take, drop, map, replicate, List, [], ◌∷◌, Option, Some, slice_get}
+use Rattle.cal_alloc.specs.Limits.{max_memory_size, bucket_limit, max_memory_alignment}
 use Rattle.cal_alloc.specs.Pool.{Pool, is_used}
 use Rattle.cal_alloc.specs.PointerOffset.{pointer_offset}
 use Rattle.cal_queue.specs.Queue.{Queue}
@@ -134,8 +135,8 @@ pub record IsReady (p : Parts) : Type 0 where
   pub ready : p.pool.is_ready ≡ true
   pub first : p.pool.buckets ≡ first_layout p.settings
   pub size : 1 ≤ p.pool.buckets.size
-  pub payload : p.pool.buckets.size * p.pool.buckets.count ≤ 2 ^ 56
-  pub count : p.pool.buckets.count < 2 ^ 32
+  pub payload : p.pool.buckets.size * p.pool.buckets.count ≤ max_memory_size
+  pub count : p.pool.buckets.count < bucket_limit
   pub marks : length p.pool.used ≡ p.pool.buckets.count
   pub memory : length p.memory ≡ p.pool.buckets.size * p.pool.buckets.count
   pub record_indices : length p.record_indices ≡ p.pool.buckets.count
@@ -166,7 +167,7 @@ pub record AgreesWith (p : Parts) (w : LedgerRest) : Type 0 where
 abbrev pub first_pool : Settings → Pool
 first_pool s = record {
   buckets = first_layout s;
-  memory_alignment = 4096;
+  memory_alignment = max_memory_alignment;
   used = replicate s.count false;
   is_ready = true;
 }

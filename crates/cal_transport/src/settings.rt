@@ -3,7 +3,7 @@
 ghost use Rattle.std.specs.Prelude.{◌≡◌, ◌<◌, ◌^◌, ◌||◌, ◌==◌};
 ghost use Rattle.cal_transport.specs.Settings.{clamped_settings, create_cause, first_layout, payload, completion_size, CanMake, is_too_large, has_too_large_connection};
 
-use cal_alloc::AllocationStrategy;
+use cal_alloc::{AllocationStrategy, MAX_MEMORY_ALIGNMENT, MAX_MEMORY_SIZE, MAX_NUMBER_OF_BUCKETS};
 
 /// The settings of a transport. A zero buffer, borrow limit, number of samples, of segments or of channels counts as
 /// one.
@@ -40,7 +40,7 @@ pub enum CreateCause {
     SizeOutOfRange,
     /// The first segment would have no byte.
     SizeIsZero,
-    /// The alignment exceeds what a segment's memory supports, 4096 bytes.
+    /// The alignment exceeds what a segment's memory gives, `MAX_MEMORY_ALIGNMENT`.
     InternalError,
 }
 
@@ -73,7 +73,7 @@ impl Settings {
             Some(CreateCause::SizeOutOfRange)
         } else if self.is_empty() {
             Some(CreateCause::SizeIsZero)
-        } else if self.alignment > 4096 {
+        } else if self.alignment > MAX_MEMORY_ALIGNMENT {
             Some(CreateCause::InternalError)
         } else {
             None
@@ -111,10 +111,10 @@ impl Settings {
         requires aligned { 0 < self.now.alignment }
         ensures value { result ≡ is_too_large (first_layout self.now) }
     {
-        if self.count >= 1 << 32 {
+        if self.count > MAX_NUMBER_OF_BUCKETS {
             return true;
         }
-        self.bucket_size() * self.count as u128 > 1 << 56
+        self.bucket_size() * self.count as u128 > MAX_MEMORY_SIZE as u128
     }
 
     /// Whether the first segment has no byte.

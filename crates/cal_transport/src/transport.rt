@@ -14,7 +14,7 @@ mod transit;
 use crate::chunk_record::ChunkRecord;
 use crate::settings::Settings;
 use cal_alloc::pool_allocator::Config;
-use cal_alloc::{Layout, PoolAllocator, ShmAllocator};
+use cal_alloc::{Layout, MAX_MEMORY_ALIGNMENT, PoolAllocator, ShmAllocator};
 use cal_queue::index_queue::IndexQueue;
 use cal_queue::safely_overflowing_index_queue::SafelyOverflowingIndexQueue;
 use cal_queue::used_chunk_list::UsedChunkList;
@@ -55,9 +55,6 @@ impl Model for Transport {
 
     ghost invariant = { IsSound };
 }
-
-/// The greatest alignment that a segment's memory supports, in bytes.
-const MAX_ALIGNMENT: usize = 4096;
 
 impl Transport {
     /// A transport in which nothing has happened yet, with room for this many loans. All its memory is taken here.
@@ -106,7 +103,11 @@ fn ready_pool(
     ensures pool { IfOk result (λ pool. pool ≡ first_pool settings.now) }
 {
     let bucket_layout = Layout::new(settings.size, settings.alignment).unwrap();
-    let mut pool = PoolAllocator::new_uninit(MAX_ALIGNMENT, memory_size, &Config { bucket_layout });
+    let mut pool = PoolAllocator::new_uninit(
+        MAX_MEMORY_ALIGNMENT,
+        memory_size,
+        &Config { bucket_layout },
+    );
     match pool.init(alloc) {
         Ok(()) => Ok(pool),
         Err(_) => Err(AllocError),

@@ -8,6 +8,7 @@ use std::alloc::Global;
 
 pub(super) type StateWords = Table<(), StatePass, OpeningWords, StateRule, Global>;
 
+/// The rule of a state table, for the proofs alone.
 pub struct StateRule;
 
 impl TableRule<(), StatePass, OpeningWords> for StateRule {

@@ -9,7 +9,8 @@ use crate::push_refusal::PushRefusal;
 use crate::ring_words::{FIRST_SLOT, next_index};
 
 impl SendSeat {
-    ghost use Rattle.cal_queue.specs.SubmissionPass.{after_lost_exchange, after_read_load, after_stores, after_won_exchange};
+    ghost use Rattle.cal_queue.specs.SubmissionPass.{after_lost_exchange, after_won_exchange};
+    ghost use Rattle.cal_queue.specs.SubmissionPass.{after_read_load, after_stores};
     ghost use Rattle.cal_queue.specs.SubmissionCalls.{IsPush, LoadsOnce, SameLists, SameSendEnd, send_pass};
     ghost use Rattle.cal_queue.specs.declared.push_refusal.PushRefusal.TheVariants.{PositionsUsedUp};
 

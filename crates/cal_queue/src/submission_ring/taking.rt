@@ -7,7 +7,8 @@ use crate::ring_words::{FIRST_SLOT, next_index};
 use std::sync::Wait;
 
 impl TakeSeat {
-    ghost use Rattle.cal_queue.specs.SubmissionPass.{after_read_look, after_write_look, after_slot_look, after_take, after_miss};
+    ghost use Rattle.cal_queue.specs.SubmissionPass.{after_read_look, after_write_look, after_slot_look};
+    ghost use Rattle.cal_queue.specs.SubmissionPass.{after_take, after_miss};
     ghost use Rattle.cal_queue.specs.SubmissionCalls.{IsPop, LooksOnce, SameTakeEnd, take_pass};
 
     // Loads the read position, and then the write position.

@@ -32,6 +32,7 @@ pub struct Builder<T, K> {
 
 impl<T, K> Model for Builder<T, K> {
     ghost use Rattle.std.specs.Prelude.{◌≤◌, ◌^◌, Some};
+    ghost use Rattle.cal_alloc.specs.Limits.{max_memory_size};
     ghost use Rattle.cal_names.specs.ConceptSettings.{settings_of};
     ghost use Rattle.cal_storage.specs.Plan.{StoragePlan};
 
@@ -43,7 +44,7 @@ impl<T, K> Model for Builder<T, K> {
       options = b.options;
     } };
 
-    ghost invariant = { λ b. b.options.room ≤ 2 ^ 56 };
+    ghost invariant = { λ b. b.options.room ≤ max_memory_size };
 }
 
 impl<T: NamedType + Debug + Drop, K: Kind> NamedConceptBuilder<Storage<T, K>> for Builder<T, K> {

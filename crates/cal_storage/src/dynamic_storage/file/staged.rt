@@ -1,6 +1,7 @@
 //! A file storage that is being made.
 ghost use Rattle.std.specs.Prelude.{◌≡◌, ◌≤◌, ◌^◌, true, false, ◌↔◌, IsOk, IfOk, IfErr, IfSome, OnOk, OnErr};
 ghost use Rattle.std.specs.Result.{is_ok};
+ghost use Rattle.cal_alloc.specs.Limits.{max_memory_size};
 ghost use Rattle.cal_storage.specs.Contents.{Has, value_of};
 ghost use Rattle.cal_storage.specs.Holding.{KeepsHandles, KeepsOtherHandles};
 ghost use Rattle.cal_storage.specs.Initializer.{MayInitialize};
@@ -31,18 +32,19 @@ pub struct Staged<T> {
 
 impl<T> Model for Staged<T> {
     ghost use Rattle.std.specs.Prelude.{◌≤◌, ◌^◌};
+    ghost use Rattle.cal_alloc.specs.Limits.{max_memory_size};
     ghost use Rattle.cal_storage.specs.Staged as specs;
 
     ghost Value = { specs.Staged };
 
     ghost view = { λ s. record { name = s.name; handle = s.handle; room = s.supplementary_size } };
 
-    ghost invariant = { λ s. s.supplementary_size ≤ 2 ^ 56 };
+    ghost invariant = { λ s. s.supplementary_size ≤ max_memory_size };
 }
 
 impl<T> Staged<T> {
     pub(crate) fn new(name: FileName, handle: Handle, supplementary_size: usize) -> Self
-        requires { supplementary_size ≤ 2 ^ 56 }
+        requires { supplementary_size ≤ max_memory_size }
         ensures { result ≡ record { name = name; handle = handle; room = supplementary_size } }
     {
         Staged {
