@@ -4,6 +4,7 @@ use crate::{
     Bytes, Command, CreateCause, Refusal, Replies, Reply, RunError, Settings, Slot, run_transport,
 };
 use cal_alloc::AllocationStrategy;
+use std::alloc::{AllocError, Global};
 use std::process::Abort;
 use std::test::Fail;
 
@@ -57,14 +58,19 @@ fn replies_with_room(rt: HostRuntime) -> Result<(), Fail> {
     Ok(())
 }
 
-#[test]
-fn each_command_that_is_served(rt: HostRuntime) -> Result<(), Fail> {
-    let bytes = Bytes::new(rt.alloc(), b"\x7b\0")?;
-    let mut commands = Vec::new(rt.alloc());
-    commands.push(Command::Loan {
+/// A loan of the whole bucket.
+fn loan() -> Command {
+    Command::Loan {
         size: 8,
         alignment: 8,
-    })?;
+    }
+}
+
+/// The way of a chunk until the receiver gives it back, and on the way a loan that finds no bucket.
+fn way_of_a_chunk(alloc: Global) -> Result<Vec<Command>, AllocError> {
+    let bytes = Bytes::new(alloc, b"\x7b\0")?;
+    let mut commands = Vec::new(alloc);
+    commands.push(loan())?;
     commands.push(Command::Write {
         chunk: 1,
         at: 0,
@@ -81,16 +87,19 @@ fn each_command_that_is_served(rt: HostRuntime) -> Result<(), Fail> {
         at: 0,
         length: 2,
     })?;
-    commands.push(Command::Loan {
-        size: 8,
-        alignment: 8,
-    })?;
+    commands.push(loan())?;
     commands.push(Command::Discard { chunk: 1 })?;
     commands.push(Command::Release {
         channel: 0,
         chunk: 1,
     })?;
-    let transit = [
+    Ok(commands)
+}
+
+#[test]
+fn a_chunk_that_was_given_back_is_in_transit(rt: HostRuntime) -> Result<(), Fail> {
+    let commands = way_of_a_chunk(rt.alloc())?;
+    let due = [
         Reply::Loaned(FIRST),
         Reply::Written,
         Reply::Sent(None),
@@ -105,12 +114,21 @@ fn each_command_that_is_served(rt: HostRuntime) -> Result<(), Fail> {
         },
     ];
     match run_transport(rt.alloc(), &SMALL, commands.as_slice()) {
-        Ok(replies) => assert_replies(&rt, &replies, &transit),
+        Ok(replies) => assert_replies(&rt, &replies, &due),
         Err(_) => return Err("the run is whole".into()),
     }
+    Ok(())
+}
+
+#[test]
+fn a_reclaim_ends_the_way_of_a_chunk(rt: HostRuntime) -> Result<(), Fail> {
+    let mut commands = way_of_a_chunk(rt.alloc())?;
     commands.push(Command::Reclaim { channel: 0 })?;
     match run_transport(rt.alloc(), &SMALL, commands.as_slice()) {
-        Ok(replies) => assert_eq!(rt; replies.get(8), Some(&Reply::Reclaimed(Some(FIRST)))),
+        Ok(replies) => {
+            assert_eq!(rt; replies.len(), 9);
+            assert_eq!(rt; replies.get(8), Some(&Reply::Reclaimed(Some(FIRST))));
+        }
         Err(_) => return Err("the run is whole".into()),
     }
     Ok(())
