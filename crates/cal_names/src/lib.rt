@@ -5,6 +5,7 @@ mod bounded_bytes;
 pub mod dynamic_storage_configuration;
 mod file_name;
 mod file_path;
+pub mod laws;
 mod name_paths;
 pub mod named_concept;
 mod named_type;

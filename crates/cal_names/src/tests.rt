@@ -6,7 +6,10 @@ mod storage_configuration;
 use super::*;
 use base64::engine::general_purpose::STANDARD;
 use sha1::Sha1;
+use std::alloc::Global;
 use std::collections::BTreeSet;
+use std::fmt::Display;
+use std::process::Abort;
 use std::test::Fail;
 
 fn is_file_name(bytes: &[u8]) -> bool {
@@ -82,21 +85,27 @@ fn file_paths_at_their_limits(rt: HostRuntime) {
     assert!(rt; !is_file_path(&long));
 }
 
+/// What a file name is with more bytes behind it.
+fn joined(name: &[u8], more: &[u8]) -> Result<Option<FileName>, Fail> {
+    let name = FileName::new(name).ok_or("a file name")?;
+    Ok(name.joined(more))
+}
+
 #[test]
 fn file_names_are_joined(rt: HostRuntime) -> Result<(), Fail> {
-    let name = FileName::new(b"mem").ok_or("a file name")?;
-    let segment = FileName::new(b"mem__0").ok_or("a file name")?;
-    assert_eq!(rt; name.joined(b"__0"), Some(segment));
-    assert_eq!(rt; name.joined(b""), Some(name));
-    assert_eq!(rt; name.joined(b"/"), None);
-    let dots = FileName::new(b"a.").ok_or("a file name")?;
-    assert_eq!(rt;
-        FileName::new(b"a").ok_or("a file name")?.joined(b"."),
-        Some(dots)
-    );
-    let long = [b'a'; 255];
-    assert_eq!(rt; name.joined(&long[..252]).is_some(), true);
-    assert_eq!(rt; name.joined(&long[..253]), None);
+    assert_eq!(rt; joined(b"mem", b"__0")?, FileName::new(b"mem__0"));
+    assert_eq!(rt; joined(b"mem", b"")?, FileName::new(b"mem"));
+    assert_eq!(rt; joined(b"a", b".")?, FileName::new(b"a."));
+    assert_eq!(rt; joined(b"mem", b"/")?, None);
+    assert!(rt; is_file_name(b"mem__0") && is_file_name(b"mem") && is_file_name(b"a."));
+    Ok(())
+}
+
+#[test]
+fn file_names_are_joined_where_they_fit(rt: HostRuntime) -> Result<(), Fail> {
+    let long = [b'a'; 253];
+    assert_eq!(rt; joined(b"mem", &long[..252])?.is_some(), true);
+    assert_eq!(rt; joined(b"mem", &long)?, None);
     Ok(())
 }
 
@@ -112,23 +121,41 @@ fn type_names_at_their_limits(rt: HostRuntime) -> Result<(), Fail> {
     Ok(())
 }
 
+/// A path with the file name of a storage behind it.
+fn path_of_mem(path: &Path) -> Result<FilePath, Fail> {
+    let file = FileName::new(b"mem.dyn").ok_or("a file name")?;
+    Ok(FilePath::from_parts(path, &file))
+}
+
+/// A path and the file name of a storage are joined to this file path, which is parted into both again.
+fn is_joined_and_parted(rt: &impl Abort, path: &[u8], joined: &[u8]) -> Result<(), Fail> {
+    let path = Path::new(path).ok_or("a path")?;
+    let file_path = path_of_mem(&path)?;
+    assert_eq!(rt; file_path.as_bytes(), joined);
+    assert_eq!(rt; file_path.path(), path);
+    assert_eq!(rt; file_path.file_name().as_bytes(), b"mem.dyn".as_slice());
+    assert_eq!(rt; FilePath::new(joined), Some(file_path));
+    Ok(())
+}
+
 #[test]
 fn a_file_path_has_two_parts(rt: HostRuntime) -> Result<(), Fail> {
-    for (path, joined) in [
-        ("", "mem.dyn"),
-        ("/", "/mem.dyn"),
-        ("a", "a/mem.dyn"),
-        ("/tmp/b", "/tmp/b/mem.dyn"),
-    ] {
-        let path = Path::new(path.as_bytes()).ok_or("a path")?;
-        let file = FileName::new(b"mem.dyn").ok_or("a file name")?;
-        let file_path = FilePath::from_parts(&path, &file);
-        assert_eq!(rt; file_path.as_bytes(), joined.as_bytes());
-        assert_eq!(rt; file_path.path(), path);
-        assert_eq!(rt; file_path.file_name(), file);
-        assert_eq!(rt; FilePath::new(joined.as_bytes()), Some(file_path));
+    is_joined_and_parted(&rt, b"", b"mem.dyn")?;
+    is_joined_and_parted(&rt, b"/", b"/mem.dyn")?;
+    is_joined_and_parted(&rt, b"a", b"a/mem.dyn")?;
+    is_joined_and_parted(&rt, b"/tmp/b", b"/tmp/b/mem.dyn")
+}
+
+/// The names, each with a blank after it.
+fn texts(alloc: Global, names: &BTreeSet<FileName>) -> Result<String, Fail> {
+    let mut texts = String::new(alloc);
+    for name in names {
+        for byte in name.as_bytes() {
+            texts.push(char::from(*byte))?;
+        }
+        texts.push(' ')?;
     }
-    Ok(())
+    Ok(texts)
 }
 
 #[test]
@@ -137,15 +164,23 @@ fn names_are_ordered_by_bytes(rt: HostRuntime) -> Result<(), Fail> {
     for text in ["b", "ab", "a", "B", "a-", "b"] {
         names.insert(FileName::new(text.as_bytes()).ok_or("a file name")?)?;
     }
-    let mut joined = String::new(rt.alloc());
-    for name in &names {
-        for byte in name.as_bytes() {
-            joined.push(char::from(*byte))?;
-        }
-        joined.push(' ')?;
-    }
-    assert_eq!(rt; joined.as_str(), "B a a- ab b ");
+    assert_eq!(rt; texts(rt.alloc(), &names)?.as_str(), "B a a- ab b ");
     Ok(())
+}
+
+/// The SHA-1 of a text in base64 for file names: the plain one with `-` and `_` for `+` and `/`, and without `=`.
+fn hash_of(alloc: Global, text: &[u8]) -> Result<String, Fail> {
+    let plain = STANDARD.encode(alloc, &Sha1::digest(text))?;
+    let mut hash = String::new(alloc);
+    for letter in plain.chars() {
+        match letter {
+            '+' => hash.push('-')?,
+            '/' => hash.push('_')?,
+            '=' => {}
+            _ => hash.push(letter)?,
+        }
+    }
+    Ok(hash)
 }
 
 #[test]
@@ -158,21 +193,29 @@ fn the_type_hash_is_the_sha1_in_base64(rt: HostRuntime) -> Result<(), Fail> {
         "AllocatorDetails_0",
         "AllocatorDetails_1",
     ] {
-        let plain = STANDARD.encode(rt.alloc(), &Sha1::digest(text.as_bytes()))?;
-        let mut expected = String::new(rt.alloc());
-        for letter in plain.chars() {
-            match letter {
-                '+' => expected.push('-')?,
-                '/' => expected.push('_')?,
-                '=' => {}
-                _ => expected.push(letter)?,
-            }
-        }
+        let expected = hash_of(rt.alloc(), text.as_bytes())?;
         let name = TypeName::new(text.as_bytes()).ok_or("a type name")?;
         assert_eq!(rt; type_hash::type_hash(&name).as_slice(), expected.as_bytes());
     }
+    Ok(())
+}
+
+#[test]
+fn the_sha1_of_abc_is_known(rt: HostRuntime) -> Result<(), Fail> {
     let plain = STANDARD.encode(rt.alloc(), &Sha1::digest(b"abc"))?;
     assert_eq!(rt; plain.as_str(), "qZk+NkcGgWq6PiVxeFDCbJzQ2J0=");
+    Ok(())
+}
+
+/// An error is printed as this text.
+fn is_printed(
+    rt: &impl Abort,
+    alloc: Global,
+    error: &impl Display,
+    text: &str,
+) -> Result<(), Fail> {
+    let printed = error.to_string(alloc)?;
+    assert_eq!(rt; printed.as_str(), text);
     Ok(())
 }
 
@@ -183,16 +226,21 @@ fn refusals_of_looks_are_printed(rt: HostRuntime) -> Result<(), Fail> {
         UnderlyingResourcesCorrupted,
     };
     for (error, text) in [
-        (InsufficientPermissions, "InsufficientPermissions"),
+        (
+            InsufficientPermissions,
+            "NamedConceptDoesExistError::InsufficientPermissions",
+        ),
         (
             UnderlyingResourcesBeingSetUp,
-            "UnderlyingResourcesBeingSetUp",
+            "NamedConceptDoesExistError::UnderlyingResourcesBeingSetUp",
         ),
-        (UnderlyingResourcesCorrupted, "UnderlyingResourcesCorrupted"),
-        (InternalError, "InternalError"),
+        (
+            UnderlyingResourcesCorrupted,
+            "NamedConceptDoesExistError::UnderlyingResourcesCorrupted",
+        ),
+        (InternalError, "NamedConceptDoesExistError::InternalError"),
     ] {
-        let expected = format!(in rt.alloc(); "NamedConceptDoesExistError::{text}")?;
-        assert_eq!(rt; error.to_string(rt.alloc())?.as_str(), expected.as_str());
+        is_printed(&rt, rt.alloc(), &error, text)?;
     }
     Ok(())
 }
@@ -201,12 +249,14 @@ fn refusals_of_looks_are_printed(rt: HostRuntime) -> Result<(), Fail> {
 fn refusals_of_removals_are_printed(rt: HostRuntime) -> Result<(), Fail> {
     use NamedConceptRemoveError::{InsufficientPermissions, InternalError, NoMemory};
     for (error, text) in [
-        (InsufficientPermissions, "InsufficientPermissions"),
-        (InternalError, "InternalError"),
-        (NoMemory, "NoMemory"),
+        (
+            InsufficientPermissions,
+            "NamedConceptRemoveError::InsufficientPermissions",
+        ),
+        (InternalError, "NamedConceptRemoveError::InternalError"),
+        (NoMemory, "NamedConceptRemoveError::NoMemory"),
     ] {
-        let expected = format!(in rt.alloc(); "NamedConceptRemoveError::{text}")?;
-        assert_eq!(rt; error.to_string(rt.alloc())?.as_str(), expected.as_str());
+        is_printed(&rt, rt.alloc(), &error, text)?;
     }
     Ok(())
 }
@@ -215,12 +265,14 @@ fn refusals_of_removals_are_printed(rt: HostRuntime) -> Result<(), Fail> {
 fn refusals_of_lists_are_printed(rt: HostRuntime) -> Result<(), Fail> {
     use NamedConceptListError::{InsufficientPermissions, InternalError, NoMemory};
     for (error, text) in [
-        (InsufficientPermissions, "InsufficientPermissions"),
-        (InternalError, "InternalError"),
-        (NoMemory, "NoMemory"),
+        (
+            InsufficientPermissions,
+            "NamedConceptListError::InsufficientPermissions",
+        ),
+        (InternalError, "NamedConceptListError::InternalError"),
+        (NoMemory, "NamedConceptListError::NoMemory"),
     ] {
-        let expected = format!(in rt.alloc(); "NamedConceptListError::{text}")?;
-        assert_eq!(rt; error.to_string(rt.alloc())?.as_str(), expected.as_str());
+        is_printed(&rt, rt.alloc(), &error, text)?;
     }
     Ok(())
 }
@@ -229,14 +281,18 @@ fn refusals_of_lists_are_printed(rt: HostRuntime) -> Result<(), Fail> {
 fn other_refusals_are_printed(rt: HostRuntime) -> Result<(), Fail> {
     use NamedConceptPathHintRemoveError::{InsufficientPermissions, InternalError};
     for (error, text) in [
-        (InsufficientPermissions, "InsufficientPermissions"),
-        (InternalError, "InternalError"),
+        (
+            InsufficientPermissions,
+            "NamedConceptPathHintRemoveError::InsufficientPermissions",
+        ),
+        (
+            InternalError,
+            "NamedConceptPathHintRemoveError::InternalError",
+        ),
     ] {
-        let expected = format!(in rt.alloc(); "NamedConceptPathHintRemoveError::{text}")?;
-        assert_eq!(rt; error.to_string(rt.alloc())?.as_str(), expected.as_str());
+        is_printed(&rt, rt.alloc(), &error, text)?;
     }
-    assert_eq!(rt; PathTooLong.to_string(rt.alloc())?.as_str(), "PathTooLong");
-    Ok(())
+    is_printed(&rt, rt.alloc(), &PathTooLong, "PathTooLong")
 }
 
 #[test]

@@ -38,11 +38,6 @@ pub cases_path : (path other : List ℕ) → (path ≡ other) ⊎ (is_path path 
 cases_path path other =
     elim (cases_Bool (is_path path other)) [ inl h ↦ inl (is_path-true path other h) | inr h ↦ inr h ]
 
--- a path that a name doesn't compare equal to
-apart_from_order : (path other : List ℕ) (order : Ordering) → slice_cmp nat_cmp path other ≡ order →
-    is_eq order ≡ false → is_path path other ≡ false
-apart_from_order path other order h n = ap is_eq h ∙ n
-
 -- ---- a look-up after a name is entered
 
 module _ (path : List ℕ) (id : ℕ) where

@@ -1,5 +1,6 @@
 //! Worked examples through the public calls.
 
+mod fixtures;
 mod initializers;
 mod names;
 mod owners;

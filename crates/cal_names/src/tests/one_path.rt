@@ -172,31 +172,52 @@ impl NamedConcept for Built {
     }
 }
 
-/// All calls of the management, through its bound.
-fn manages<M: NamedConceptMgmt<Names = OnePath>>(
-    rt: &impl Abort,
-    alloc: Global,
-) -> Result<(), Fail> {
-    let config = M::Configuration::default();
+/// A registry that has the path of `mem`.
+fn with_mem<M: NamedConceptMgmt<Names = OnePath>>() -> Result<OnePath, Fail> {
+    let mem = FileName::new(b"mem").ok_or("a file name")?;
+    Ok(Some(M::Configuration::default().path_for(&mem)?))
+}
+
+/// The looks of the management, through its bound.
+fn looks<M: NamedConceptMgmt<Names = OnePath>>(rt: &impl Abort, alloc: Global) -> Result<(), Fail> {
     let mem = FileName::new(b"mem").ok_or("a file name")?;
     let other = FileName::new(b"other").ok_or("a file name")?;
-    let mut reg = Some(config.path_for(&mem)?);
+    let reg = with_mem::<M>()?;
     assert_eq!(rt; M::does_exist(&reg, &mem), Ok(true));
     assert_eq!(rt; M::does_exist(&reg, &other), Ok(false));
     let names = M::list(alloc, &reg)?;
     assert_eq!(rt; names.as_slice(), [mem].as_slice());
+    Ok(())
+}
+
+/// The removals of the management, through its bound.
+fn removes<M: NamedConceptMgmt<Names = OnePath>>(
+    rt: &impl Abort,
+    alloc: Global,
+) -> Result<(), Fail> {
+    let mem = FileName::new(b"mem").ok_or("a file name")?;
+    let other = FileName::new(b"other").ok_or("a file name")?;
+    let mut reg = with_mem::<M>()?;
     assert_eq!(rt; M::remove(alloc, &mut reg, &other), Ok(false));
     assert_eq!(rt; M::remove(alloc, &mut reg, &mem), Ok(true));
     assert_eq!(rt; reg, None);
+    Ok(())
+}
+
+/// The defaults of the management, through its bound.
+fn has_defaults<M: NamedConceptMgmt<Names = OnePath>>(rt: &impl Abort) {
+    let config = M::Configuration::default();
     assert_eq!(rt; M::remove_path_hint(&M::default_path_hint()), Ok(()));
     assert_eq!(rt; M::default_prefix(), *config.get_prefix());
     assert_eq!(rt; M::default_path_hint(), *config.get_path_hint());
-    Ok(())
 }
 
 #[test]
 fn one_path_is_managed(rt: HostRuntime) -> Result<(), Fail> {
-    manages::<Lone>(&rt, rt.alloc())
+    looks::<Lone>(&rt, rt.alloc())?;
+    removes::<Lone>(&rt, rt.alloc())?;
+    has_defaults::<Lone>(&rt);
+    Ok(())
 }
 
 #[test]

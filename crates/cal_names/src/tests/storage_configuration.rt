@@ -72,17 +72,28 @@ fn makes_and_extracts<C: DynamicStorageConfiguration>(
     assert_eq!(rt; path.as_bytes(), ABC_MEM);
     assert_eq!(rt; config.path_for_with_type(&name)?, path);
     assert_eq!(rt; config.extract_name_from_path(&path), Some(name));
+    Ok(())
+}
+
+/// Under another path hint a path stands for no name.
+fn extracts_nothing_elsewhere<C: DynamicStorageConfiguration>(
+    rt: &impl Abort,
+    config: &C,
+) -> Result<(), Fail> {
+    let path = FilePath::new(ABC_MEM).ok_or("a file path")?;
     let elsewhere = Path::new(b"/tmp/other").ok_or("a path")?;
-    assert_eq!(rt;
-        config.path_hint(&elsewhere).extract_name_from_path(&path),
-        None
-    );
+    let other = config.path_hint(&elsewhere);
+    assert_eq!(rt; other.extract_name_from_path(&path), None);
+    Ok(())
+}
+
+/// Prefix, suffix and path hint stand where they should.
+fn has_its_parts<C: DynamicStorageConfiguration>(rt: &impl Abort, config: &C) -> Result<(), Fail> {
     let prefix = FileName::new(b"my-").ok_or("a file name")?;
     let suffix = FileName::new(b".shm").ok_or("a file name")?;
-    let other = config
-        .prefix(&prefix)
-        .suffix(&suffix)
-        .path_hint(&Path::new(b"").ok_or("a path")?);
+    let nowhere = Path::new(b"").ok_or("a path")?;
+    let other = config.prefix(&prefix).suffix(&suffix).path_hint(&nowhere);
+    let name = FileName::new(b"mem").ok_or("a file name")?;
     assert_eq!(rt;
         other.path_for(&name)?.as_bytes(),
         b"my-qZk-NkcGgWq6PiVxeFDCbJzQ2J0_mem.shm".as_slice()
@@ -92,7 +103,10 @@ fn makes_and_extracts<C: DynamicStorageConfiguration>(
 
 #[test]
 fn a_configuration_makes_paths_and_extracts_names(rt: HostRuntime) -> Result<(), Fail> {
-    makes_and_extracts(&rt, &Configuration::default())
+    let config = Configuration::default();
+    makes_and_extracts(&rt, &config)?;
+    extracts_nothing_elsewhere(&rt, &config)?;
+    has_its_parts(&rt, &config)
 }
 
 #[test]
@@ -107,9 +121,26 @@ fn a_name_may_be_too_long_for_a_path(rt: HostRuntime) -> Result<(), Fail> {
     Ok(())
 }
 
+/// A file name stands for this name, or for none, through both calls.
+fn stands_for(rt: &impl Abort, file: &str, expected: &str) -> Result<(), Fail> {
+    let config = Configuration::default();
+    let file_name = FileName::new(file.as_bytes()).ok_or("a file name")?;
+    let name = FileName::new(expected.as_bytes());
+    assert_eq!(rt;
+        config.extract_name_from_file(&file_name),
+        name,
+        "at {file}"
+    );
+    assert_eq!(rt;
+        config.extract_name_from_file_with_type(&file_name),
+        name,
+        "at {file}"
+    );
+    Ok(())
+}
+
 #[test]
 fn a_file_name_may_stand_for_no_name(rt: HostRuntime) -> Result<(), Fail> {
-    let config = Configuration::default();
     for (file, expected) in [
         ("iox2_qZk-NkcGgWq6PiVxeFDCbJzQ2J0_mem.dyn", "mem"),
         (
@@ -125,18 +156,7 @@ fn a_file_name_may_stand_for_no_name(rt: HostRuntime) -> Result<(), Fail> {
         ("iox2_qZk-NkcGgWq6PiVxeFDCbJzQ2J0-mem.dyn", ""),
         ("iox3_qZk-NkcGgWq6PiVxeFDCbJzQ2J0_mem.dyn", ""),
     ] {
-        let file_name = FileName::new(file.as_bytes()).ok_or("a file name")?;
-        let name = FileName::new(expected.as_bytes());
-        assert_eq!(rt;
-            config.extract_name_from_file(&file_name),
-            name,
-            "at {file}"
-        );
-        assert_eq!(rt;
-            config.extract_name_from_file_with_type(&file_name),
-            name,
-            "at {file}"
-        );
+        stands_for(&rt, file, expected)?;
     }
     Ok(())
 }

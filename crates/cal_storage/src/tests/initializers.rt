@@ -1,10 +1,11 @@
 //! What an initializer is shown, and what it leaves.
 ghost use Rattle.std.specs.Prelude.{IsTrue};
 
+use super::fixtures::{create, long_name, my_name, open};
 use crate::dynamic_storage::{file, process_local};
-use crate::{AccessMode, DynamicStorage, DynamicStorageBuilder, Registry};
+use crate::{DynamicStorage, DynamicStorageBuilder, Registry};
 use cal_alloc::{BumpAllocator, Layout, ShmAllocationError, ShmAllocator};
-use cal_names::{FileName, NamedConceptBuilder};
+use cal_names::NamedConceptBuilder;
 use std::alloc::Global;
 use std::process::Abort;
 use std::test::Fail;
@@ -28,7 +29,7 @@ fn an_initializer_leaves_the_value<S: DynamicStorage<i64>>(
     rt: &impl Abort,
     alloc: Global,
 ) -> Result<(), Fail> {
-    let name = FileName::new(b"myDynStorage").ok_or("a file name")?;
+    let name = my_name()?;
     let mut reg = Registry::new(alloc);
     let _made = S::Builder::new(&name)
         .supplementary_size(16)
@@ -36,18 +37,17 @@ fn an_initializer_leaves_the_value<S: DynamicStorage<i64>>(
             *value = 873;
             has_room_for_16(allocator)
         })?;
-    let opened = S::Builder::new(&name).open(&mut reg, AccessMode::ReadWrite)?;
+    let opened = open::<S>(&mut reg, &name)?;
     assert_eq!(rt; *opened.get(&reg), 873);
     Ok(())
 }
 
-/// An initializer is called once by a creation that succeeds, and by none that is refused.
+/// An initializer is called once by a creation that succeeds, and by none that is refused for its path.
 fn an_initializer_is_called_once<S: DynamicStorage<i64>>(
     rt: &impl Abort,
     alloc: Global,
 ) -> Result<(), Fail> {
-    let name = FileName::new(b"myDynStorage").ok_or("a file name")?;
-    let long = FileName::new(&[b'a'; 255]).ok_or("a file name")?;
+    let name = my_name()?;
     let mut reg = Registry::new(alloc);
     let mut calls = 0u32;
     let mut count = |_value: &mut i64, _allocator: &mut BumpAllocator| -> bool {
@@ -56,29 +56,52 @@ fn an_initializer_is_called_once<S: DynamicStorage<i64>>(
     };
     let _made = S::Builder::new(&name).create(&mut reg, 444, &mut count)?;
     let taken = S::Builder::new(&name).create(&mut reg, 444, &mut count);
-    let too_long = S::Builder::new(&long).create(&mut reg, 444, &mut count);
-    let opened = S::Builder::new(&name).open_or_create(&mut reg, 444, &mut count);
-    let too_long_again = S::Builder::new(&long).open_or_create(&mut reg, 444, &mut count);
+    let too_long = S::Builder::new(&long_name()?).create(&mut reg, 444, &mut count);
     assert_eq!(rt; calls, 1);
     assert!(rt; taken.is_err());
     assert!(rt; too_long.is_err());
+    Ok(())
+}
+
+/// It isn't called where something is opened.
+fn an_initializer_is_not_called_by_an_opening<S: DynamicStorage<i64>>(
+    rt: &impl Abort,
+    alloc: Global,
+) -> Result<(), Fail> {
+    let name = my_name()?;
+    let mut reg = Registry::new(alloc);
+    let mut calls = 0u32;
+    let _made = create::<S>(&mut reg, &name, 444)?;
+    let opened = S::Builder::new(&name).open_or_create(&mut reg, 444, |_, _| {
+        calls = calls.saturating_add(1);
+        true
+    });
+    assert_eq!(rt; calls, 0);
     assert!(rt; opened.is_ok());
-    assert!(rt; too_long_again.is_err());
+    Ok(())
+}
+
+/// It isn't called where there is no path.
+fn an_initializer_is_not_called_without_a_path<S: DynamicStorage<i64>>(
+    rt: &impl Abort,
+    alloc: Global,
+) -> Result<(), Fail> {
+    let mut reg = Registry::new(alloc);
+    let mut calls = 0u32;
+    let too_long = S::Builder::new(&long_name()?).open_or_create(&mut reg, 444, |_, _| {
+        calls = calls.saturating_add(1);
+        true
+    });
+    assert_eq!(rt; calls, 0);
+    assert!(rt; too_long.is_err());
     Ok(())
 }
 
 #[test]
-fn initializers_are_called_once(rt: HostRuntime) -> Result<(), Fail> {
-    an_initializer_is_called_once::<process_local::Storage<i64>>(&rt, rt.alloc())?;
-    an_initializer_is_called_once::<file::Storage<i64>>(&rt, rt.alloc())
-}
-
-#[test]
 fn an_initializer_is_called_when_its_making_is_finished(rt: HostRuntime) -> Result<(), Fail> {
-    let name = FileName::new(b"myDynStorage").ok_or("a file name")?;
     let mut reg = Registry::new(rt.alloc());
     let mut calls = 0u32;
-    let staged = file::Builder::<i64>::new(&name).begin(&mut reg, 444)?;
+    let staged = file::Builder::<i64>::new(&my_name()?).begin(&mut reg, 444)?;
     let finished = staged.finish(&mut reg, |_, _| {
         calls = calls.saturating_add(1);
         true
@@ -88,8 +111,16 @@ fn an_initializer_is_called_when_its_making_is_finished(rt: HostRuntime) -> Resu
     Ok(())
 }
 
+/// All of these for one kind of storage.
+fn each_call<S: DynamicStorage<i64>>(rt: &impl Abort, alloc: Global) -> Result<(), Fail> {
+    an_initializer_leaves_the_value::<S>(rt, alloc)?;
+    an_initializer_is_called_once::<S>(rt, alloc)?;
+    an_initializer_is_not_called_by_an_opening::<S>(rt, alloc)?;
+    an_initializer_is_not_called_without_a_path::<S>(rt, alloc)
+}
+
 #[test]
-fn initializers_leave_the_value(rt: HostRuntime) -> Result<(), Fail> {
-    an_initializer_leaves_the_value::<process_local::Storage<i64>>(&rt, rt.alloc())?;
-    an_initializer_leaves_the_value::<file::Storage<i64>>(&rt, rt.alloc())
+fn each_call_of_an_initializer(rt: HostRuntime) -> Result<(), Fail> {
+    each_call::<process_local::Storage<i64>>(&rt, rt.alloc())?;
+    each_call::<file::Storage<i64>>(&rt, rt.alloc())
 }

@@ -1,49 +1,53 @@
 //! Which names a registry has, and which it lists.
+use super::fixtures::{create, long_name, my_name, open};
 use crate::dynamic_storage::{file, process_local};
 use crate::{
-    AccessMode, DynamicStorage, DynamicStorageBuilder, DynamicStorageCreateError,
-    DynamicStorageOpenError, DynamicStorageOpenOrCreateError, Registry,
+    DynamicStorage, DynamicStorageBuilder, DynamicStorageCreateError, DynamicStorageOpenError,
+    DynamicStorageOpenOrCreateError, Registry,
 };
 use cal_names::{FileName, FilePath, NamedConcept, NamedConceptBuilder, NamedConceptConfiguration};
 use std::alloc::Global;
 use std::process::Abort;
 use std::test::Fail;
 
-/// The path of a name of 255 bytes would be too long for each call that makes or finds a storage.
-fn a_long_name_has_no_path<S: DynamicStorage<i64>>(
+/// The path of a name of 255 bytes would be too long for each call that makes a storage.
+fn a_long_name_is_not_created<S: DynamicStorage<i64>>(
     rt: &impl Abort,
     alloc: Global,
 ) -> Result<(), Fail> {
-    let name = FileName::new(&[b'a'; 255]).ok_or("a file name")?;
+    let name = long_name()?;
     let mut reg = Registry::new(alloc);
-    let refused = S::Builder::new(&name).create(&mut reg, 873, |_, _| true);
+    let refused = create::<S>(&mut reg, &name, 873);
     assert_eq!(rt; refused.err(), Some(DynamicStorageCreateError::PathTooLong));
-    let refused = S::Builder::new(&name).open(&mut reg, AccessMode::Read);
-    assert_eq!(rt; refused.err(), Some(DynamicStorageOpenError::PathTooLong));
-    let result = S::Builder::new(&name).open_or_create(&mut reg, 444, |_, _| true);
+    let refused = S::Builder::new(&name).open_or_create(&mut reg, 444, |_, _| true);
     assert_eq!(rt;
-        result.err(),
+        refused.err(),
         Some(DynamicStorageOpenOrCreateError::DynamicStorageOpenError(
             DynamicStorageOpenError::PathTooLong
         ))
     );
-    assert_eq!(rt; S::remove(alloc, &mut reg, &name), Ok(false));
-    assert_eq!(rt; S::does_exist(&reg, &name), Ok(false));
     assert_eq!(rt; reg.len(), 0);
     Ok(())
 }
 
-#[test]
-fn long_names_have_no_path(rt: HostRuntime) -> Result<(), Fail> {
-    a_long_name_has_no_path::<process_local::Storage<i64>>(&rt, rt.alloc())?;
-    a_long_name_has_no_path::<file::Storage<i64>>(&rt, rt.alloc())
+/// It is not there for each call that finds a storage.
+fn a_long_name_is_not_found<S: DynamicStorage<i64>>(
+    rt: &impl Abort,
+    alloc: Global,
+) -> Result<(), Fail> {
+    let name = long_name()?;
+    let mut reg = Registry::new(alloc);
+    let refused = open::<S>(&mut reg, &name);
+    assert_eq!(rt; refused.err(), Some(DynamicStorageOpenError::PathTooLong));
+    assert_eq!(rt; S::remove(alloc, &mut reg, &name), Ok(false));
+    assert_eq!(rt; S::does_exist(&reg, &name), Ok(false));
+    Ok(())
 }
 
 #[test]
 fn a_long_name_cannot_be_begun(rt: HostRuntime) -> Result<(), Fail> {
-    let name = FileName::new(&[b'a'; 255]).ok_or("a file name")?;
     let mut reg = Registry::new(rt.alloc());
-    let begun = file::Builder::<i64>::new(&name).begin(&mut reg, 444);
+    let begun = file::Builder::<i64>::new(&long_name()?).begin(&mut reg, 444);
     assert_eq!(rt; begun.err(), Some(DynamicStorageCreateError::PathTooLong));
     Ok(())
 }
@@ -73,17 +77,25 @@ fn make_under_prefix<S: DynamicStorage<i64>>(
     Ok(())
 }
 
+/// Makes storages of five names under the prefix of all storages, and of one under another.
+fn make_six<S: DynamicStorage<i64>>(
+    reg: &mut Registry<i64>,
+    prefix: &FileName,
+) -> Result<(), Fail> {
+    for text in ["b", "ab", "a", "B", "a-"] {
+        let name = FileName::new(text.as_bytes()).ok_or("a file name")?;
+        let _made = create::<S>(reg, &name, 444)?;
+    }
+    let other = FileName::new(b"other").ok_or("a file name")?;
+    make_under_prefix::<S>(reg, &other, prefix)
+}
+
 /// The names are listed in the order of the bytes of their paths, in which `-` comes before `.`. Those under another
 /// prefix are listed where this is asked for.
 fn names_are_listed<S: DynamicStorage<i64>>(rt: &impl Abort, alloc: Global) -> Result<(), Fail> {
     let mut reg = Registry::new(alloc);
-    for text in ["b", "ab", "a", "B", "a-"] {
-        let name = FileName::new(text.as_bytes()).ok_or("a file name")?;
-        let _made = S::Builder::new(&name).create(&mut reg, 444, |_, _| true)?;
-    }
-    let other = FileName::new(b"other").ok_or("a file name")?;
     let prefix = FileName::new(b"hidden_").ok_or("a file name")?;
-    make_under_prefix::<S>(&mut reg, &other, &prefix)?;
+    make_six::<S>(&mut reg, &prefix)?;
     let names = S::list(alloc, &reg)?;
     assert_eq!(rt; joined(alloc, names.as_slice())?.as_str(), "B a- a ab b ");
     let config = S::Configuration::default().prefix(&prefix);
@@ -93,19 +105,13 @@ fn names_are_listed<S: DynamicStorage<i64>>(rt: &impl Abort, alloc: Global) -> R
     Ok(())
 }
 
-#[test]
-fn names_are_listed_in_the_order_of_their_paths(rt: HostRuntime) -> Result<(), Fail> {
-    names_are_listed::<process_local::Storage<i64>>(&rt, rt.alloc())?;
-    names_are_listed::<file::Storage<i64>>(&rt, rt.alloc())
-}
-
 /// A registry has the path of a name, and of no other.
 fn a_path_is_there<S: DynamicStorage<i64>>(rt: &impl Abort, alloc: Global) -> Result<(), Fail> {
-    let name = FileName::new(b"myDynStorage").ok_or("a file name")?;
+    let name = my_name()?;
     let mut reg = Registry::new(alloc);
     let path = S::Configuration::default().path_for(&name)?;
     assert!(rt; !reg.contains(&path));
-    let _made = S::Builder::new(&name).create(&mut reg, 444, |_, _| true)?;
+    let _made = create::<S>(&mut reg, &name, 444)?;
     assert!(rt; reg.contains(&path));
     let other = FilePath::new(b"/tmp/myDynStorage").ok_or("a file path")?;
     assert!(rt; !reg.contains(&other));
@@ -113,18 +119,12 @@ fn a_path_is_there<S: DynamicStorage<i64>>(rt: &impl Abort, alloc: Global) -> Re
     Ok(())
 }
 
-#[test]
-fn paths_are_there(rt: HostRuntime) -> Result<(), Fail> {
-    a_path_is_there::<process_local::Storage<i64>>(&rt, rt.alloc())?;
-    a_path_is_there::<file::Storage<i64>>(&rt, rt.alloc())
-}
-
 /// A storage has the name of its builder, and its kind has a suffix.
 fn a_storage_has_its_name<S: DynamicStorage<i64>>(
     rt: &impl Abort,
     alloc: Global,
 ) -> Result<(), Fail> {
-    let name = FileName::new(b"myDynStorage").ok_or("a file name")?;
+    let name = my_name()?;
     let mut reg = Registry::new(alloc);
     let made = S::Builder::new(&name)
         .call_drop_on_destruction(false)
@@ -136,8 +136,17 @@ fn a_storage_has_its_name<S: DynamicStorage<i64>>(
     Ok(())
 }
 
+/// All of these for one kind of storage.
+fn each_rule<S: DynamicStorage<i64>>(rt: &impl Abort, alloc: Global) -> Result<(), Fail> {
+    a_long_name_is_not_created::<S>(rt, alloc)?;
+    a_long_name_is_not_found::<S>(rt, alloc)?;
+    names_are_listed::<S>(rt, alloc)?;
+    a_path_is_there::<S>(rt, alloc)?;
+    a_storage_has_its_name::<S>(rt, alloc)
+}
+
 #[test]
-fn storages_have_their_names(rt: HostRuntime) -> Result<(), Fail> {
-    a_storage_has_its_name::<process_local::Storage<i64>>(&rt, rt.alloc())?;
-    a_storage_has_its_name::<file::Storage<i64>>(&rt, rt.alloc())
+fn each_rule_of_names(rt: HostRuntime) -> Result<(), Fail> {
+    each_rule::<process_local::Storage<i64>>(&rt, rt.alloc())?;
+    each_rule::<file::Storage<i64>>(&rt, rt.alloc())
 }

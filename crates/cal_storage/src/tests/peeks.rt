@@ -1,37 +1,38 @@
 //! What is seen of a storage without opening it, its removal by name, and the path of its name.
 ghost use Rattle.std.specs.Prelude.{◌≡◌, codes};
+ghost use Rattle.cal_storage.specs.Holding.{KeepsHandles};
 
+use super::fixtures::{create, long_name, my_name, open};
 use crate::dynamic_storage::configuration::Configuration;
 use crate::dynamic_storage::{file, process_local};
-use crate::{AccessMode, DynamicStorage, DynamicStorageBuilder, DynamicStorageOpenError, Registry};
+use crate::{DynamicStorage, DynamicStorageBuilder, DynamicStorageOpenError, Registry};
 use cal_names::{FileName, NamedConceptBuilder, NamedConceptConfiguration, NamedType, TypeName};
 use std::alloc::Global;
 use std::process::Abort;
 use std::test::Fail;
 
-/// A value is seen where it could be opened, and an opening is refused as it would be.
-fn a_value_is_seen<S: DynamicStorage<i64>>(rt: &impl Abort, alloc: Global) -> Result<(), Fail> {
-    let name = FileName::new(b"myDynStorage").ok_or("a file name")?;
-    let long = FileName::new(&[b'a'; 255]).ok_or("a file name")?;
-    let mut reg = Registry::new(alloc);
-    let missing = S::Builder::new(&name).peek(&reg).copied();
+/// A look is refused as an opening would be.
+fn a_look_is_refused<S: DynamicStorage<i64>>(rt: &impl Abort, alloc: Global) -> Result<(), Fail> {
+    let reg = Registry::new(alloc);
+    let missing = S::Builder::new(&my_name()?).peek(&reg).copied();
     assert_eq!(rt; missing, Err(DynamicStorageOpenError::DoesNotExist));
-    let too_long = S::Builder::new(&long).peek(&reg).copied();
+    let too_long = S::Builder::new(&long_name()?).peek(&reg).copied();
     assert_eq!(rt; too_long, Err(DynamicStorageOpenError::PathTooLong));
-    let _made = S::Builder::new(&name).create(&mut reg, 444, |_, _| true)?;
+    Ok(())
+}
+
+/// A value is seen where it could be opened.
+fn a_value_is_seen<S: DynamicStorage<i64>>(rt: &impl Abort, alloc: Global) -> Result<(), Fail> {
+    let name = my_name()?;
+    let mut reg = Registry::new(alloc);
+    let _made = create::<S>(&mut reg, &name, 444)?;
     assert_eq!(rt; S::Builder::new(&name).peek(&reg).copied(), Ok(444));
     Ok(())
 }
 
 #[test]
-fn values_are_seen(rt: HostRuntime) -> Result<(), Fail> {
-    a_value_is_seen::<process_local::Storage<i64>>(&rt, rt.alloc())?;
-    a_value_is_seen::<file::Storage<i64>>(&rt, rt.alloc())
-}
-
-#[test]
 fn an_entry_that_is_being_made_is_not_seen_as_a_file(rt: HostRuntime) -> Result<(), Fail> {
-    let name = FileName::new(b"myDynStorage").ok_or("a file name")?;
+    let name = my_name()?;
     let mut reg = Registry::new(rt.alloc());
     let _staged = file::Builder::<i64>::new(&name).begin(&mut reg, 444)?;
     let seen = file::Builder::<i64>::new(&name).peek(&reg).copied();
@@ -46,26 +47,25 @@ fn an_entry_that_is_being_made_is_not_seen_as_a_file(rt: HostRuntime) -> Result<
     Ok(())
 }
 
-/// A removal by name takes the name, and leaves who holds the entry.
-fn a_name_is_removed<S: DynamicStorage<i64>>(rt: &impl Abort, alloc: Global) -> Result<(), Fail> {
-    let name = FileName::new(b"myDynStorage").ok_or("a file name")?;
+/// Whether the name was there and is removed.
+fn remove<S: DynamicStorage<i64>>(reg: &mut Registry<i64>, name: &FileName) -> bool
+    ensures keeps { KeepsHandles reg.old reg.new }
+{
     let config = S::Configuration::default();
-    let mut reg = Registry::new(alloc);
-    let made = S::Builder::new(&name).create(&mut reg, 444, |_, _| true)?;
-    let is_removed = S::remove_name(&mut reg, &name, &config);
-    assert!(rt; is_removed);
-    let is_removed = S::remove_name(&mut reg, &name, &config);
-    assert!(rt; !is_removed);
-    assert_eq!(rt; *made.get(&reg), 444);
-    let missing = S::Builder::new(&name).open(&mut reg, AccessMode::Read);
-    assert_eq!(rt; missing.err(), Some(DynamicStorageOpenError::DoesNotExist));
-    Ok(())
+    S::remove_name(reg, name, &config)
 }
 
-#[test]
-fn names_are_removed(rt: HostRuntime) -> Result<(), Fail> {
-    a_name_is_removed::<process_local::Storage<i64>>(&rt, rt.alloc())?;
-    a_name_is_removed::<file::Storage<i64>>(&rt, rt.alloc())
+/// A removal by name takes the name, and leaves who holds the entry.
+fn a_name_is_removed<S: DynamicStorage<i64>>(rt: &impl Abort, alloc: Global) -> Result<(), Fail> {
+    let name = my_name()?;
+    let mut reg = Registry::new(alloc);
+    let made = create::<S>(&mut reg, &name, 444)?;
+    assert!(rt; remove::<S>(&mut reg, &name));
+    assert!(rt; !remove::<S>(&mut reg, &name));
+    assert_eq!(rt; *made.get(&reg), 444);
+    let missing = open::<S>(&mut reg, &name);
+    assert_eq!(rt; missing.err(), Some(DynamicStorageOpenError::DoesNotExist));
+    Ok(())
 }
 
 /// A type whose name has a hash that is known from elsewhere.
@@ -89,4 +89,17 @@ fn the_hash_of_the_stored_type_stands_in_the_path(rt: HostRuntime) -> Result<(),
         b"/tmp/iox2_qZk-NkcGgWq6PiVxeFDCbJzQ2J0_mem.dyn".as_slice()
     );
     Ok(())
+}
+
+/// All of these for one kind of storage.
+fn each_look<S: DynamicStorage<i64>>(rt: &impl Abort, alloc: Global) -> Result<(), Fail> {
+    a_look_is_refused::<S>(rt, alloc)?;
+    a_value_is_seen::<S>(rt, alloc)?;
+    a_name_is_removed::<S>(rt, alloc)
+}
+
+#[test]
+fn each_look_and_removal(rt: HostRuntime) -> Result<(), Fail> {
+    each_look::<process_local::Storage<i64>>(&rt, rt.alloc())?;
+    each_look::<file::Storage<i64>>(&rt, rt.alloc())
 }

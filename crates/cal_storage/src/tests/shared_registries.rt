@@ -1,4 +1,5 @@
 //! A registry that two workers use.
+use super::fixtures::{create, my_name};
 use crate::dynamic_storage::file::{Builder, Configuration, Storage};
 use crate::{
     AccessMode, DynamicStorageBuilder, DynamicStorageCreateError, DynamicStorageOpenError,
@@ -38,7 +39,7 @@ fn set_finished(rt: &impl Wait, shared: &SharedRegistry<i64>, path: &FilePath) -
 
 #[test]
 fn one_opens_what_another_finishes(rt: HostRuntime) -> Result<(), Fail> {
-    let name = FileName::new(b"myDynStorage").ok_or("a file name")?;
+    let name = my_name()?;
     let path = Configuration::<i64>::default().path_for(&name)?;
     let shared = SharedRegistry::new(Registry::new(rt.alloc()));
     begin(&rt, &shared, &name)?;
@@ -60,10 +61,10 @@ fn one_opens_what_another_finishes(rt: HostRuntime) -> Result<(), Fail> {
 
 #[test]
 fn a_shared_registry_has_what_was_in_it(rt: HostRuntime) -> Result<(), Fail> {
-    let name = FileName::new(b"myDynStorage").ok_or("a file name")?;
+    let name = my_name()?;
     let path = Configuration::<i64>::default().path_for(&name)?;
     let mut reg = Registry::new(rt.alloc());
-    let _made: Storage<i64> = Builder::<i64>::new(&name).create(&mut reg, 444, |_, _| true)?;
+    let _made = create::<Storage<i64>>(&mut reg, &name, 444)?;
     let shared = SharedRegistry::new(reg);
     let is_there = shared.lock(&rt).contains(&path);
     assert!(rt; is_there);

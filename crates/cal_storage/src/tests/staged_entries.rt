@@ -1,19 +1,17 @@
 //! Entries that are begun and finished later.
+use super::fixtures::{create, my_name, open};
 use crate::dynamic_storage::file::{Builder, Configuration, Storage};
 use crate::dynamic_storage::process_local;
-use crate::{
-    AccessMode, DynamicStorage, DynamicStorageBuilder, DynamicStorageCreateError,
-    DynamicStorageOpenError, Registry,
-};
-use cal_names::{FileName, NamedConceptBuilder, NamedConceptConfiguration, NamedConceptMgmt};
+use crate::{DynamicStorage, DynamicStorageCreateError, DynamicStorageOpenError, Registry};
+use cal_names::{NamedConceptBuilder, NamedConceptConfiguration, NamedConceptMgmt};
 use std::test::Fail;
 
 #[test]
 fn an_entry_is_opened_once_it_is_finished(rt: HostRuntime) -> Result<(), Fail> {
-    let name = FileName::new(b"myDynStorage").ok_or("a file name")?;
+    let name = my_name()?;
     let mut reg = Registry::new(rt.alloc());
     let staged = Builder::<i64>::new(&name).begin(&mut reg, 444)?;
-    let refused = Builder::<i64>::new(&name).open(&mut reg, AccessMode::Read);
+    let refused = open::<Storage<i64>>(&mut reg, &name);
     assert_eq!(rt;
         refused.err(),
         Some(DynamicStorageOpenError::InitializationNotYetFinalized)
@@ -22,11 +20,19 @@ fn an_entry_is_opened_once_it_is_finished(rt: HostRuntime) -> Result<(), Fail> {
         *value = 873;
         true
     })?;
-    let opened = Builder::<i64>::new(&name).open(&mut reg, AccessMode::ReadWrite)?;
+    let opened = open::<Storage<i64>>(&mut reg, &name)?;
     assert_eq!(rt; *opened.get(&reg), 873);
+    Ok(())
+}
+
+#[test]
+fn an_entry_of_another_version_is_not_opened(rt: HostRuntime) -> Result<(), Fail> {
+    let name = my_name()?;
+    let mut reg = Registry::new(rt.alloc());
+    let _made = create::<Storage<i64>>(&mut reg, &name, 873)?;
     let path = Configuration::<i64>::default().path_for(&name)?;
     assert!(rt; reg.set_version(&path, 9002));
-    let refused = Builder::<i64>::new(&name).open(&mut reg, AccessMode::Read);
+    let refused = open::<Storage<i64>>(&mut reg, &name);
     assert_eq!(rt;
         refused.err(),
         Some(DynamicStorageOpenError::VersionMismatch)
@@ -36,10 +42,10 @@ fn an_entry_is_opened_once_it_is_finished(rt: HostRuntime) -> Result<(), Fail> {
 
 #[test]
 fn the_path_of_an_entry_that_is_being_made_is_taken(rt: HostRuntime) -> Result<(), Fail> {
-    let name = FileName::new(b"myDynStorage").ok_or("a file name")?;
+    let name = my_name()?;
     let mut reg = Registry::new(rt.alloc());
     let _staged = Builder::<i64>::new(&name).begin(&mut reg, 444)?;
-    let refused = Builder::<i64>::new(&name).create(&mut reg, 873, |_, _| true);
+    let refused = create::<Storage<i64>>(&mut reg, &name, 873);
     assert_eq!(rt;
         refused.err(),
         Some(DynamicStorageCreateError::AlreadyExists)
@@ -51,7 +57,7 @@ fn the_path_of_an_entry_that_is_being_made_is_taken(rt: HostRuntime) -> Result<(
 
 #[test]
 fn a_refused_value_frees_its_path(rt: HostRuntime) -> Result<(), Fail> {
-    let name = FileName::new(b"myDynStorage").ok_or("a file name")?;
+    let name = my_name()?;
     let mut reg = Registry::new(rt.alloc());
     let staged = Builder::<i64>::new(&name).begin(&mut reg, 444)?;
     let finished = staged.finish(&mut reg, |value, _| {
@@ -63,14 +69,14 @@ fn a_refused_value_frees_its_path(rt: HostRuntime) -> Result<(), Fail> {
         Some(DynamicStorageCreateError::InitializationFailed)
     );
     assert_eq!(rt; reg.len(), 0);
-    let again = Builder::<i64>::new(&name).create(&mut reg, 456, |_, _| true)?;
+    let again = create::<Storage<i64>>(&mut reg, &name, 456)?;
     assert_eq!(rt; *again.get(&reg), 456);
     Ok(())
 }
 
 #[test]
 fn an_entry_is_finished_without_its_name(rt: HostRuntime) -> Result<(), Fail> {
-    let name = FileName::new(b"myDynStorage").ok_or("a file name")?;
+    let name = my_name()?;
     let mut reg = Registry::new(rt.alloc());
     let staged = Builder::<i64>::new(&name).begin(&mut reg, 444)?;
     assert_eq!(rt;
@@ -88,17 +94,17 @@ fn an_entry_is_finished_without_its_name(rt: HostRuntime) -> Result<(), Fail> {
 
 #[test]
 fn a_process_local_storage_is_opened_while_it_is_being_made(rt: HostRuntime) -> Result<(), Fail> {
-    let name = FileName::new(b"myDynStorage").ok_or("a file name")?;
+    let name = my_name()?;
     let mut reg = Registry::new(rt.alloc());
     let _staged = Builder::<i64>::new(&name).begin(&mut reg, 444)?;
-    let opened = process_local::Builder::<i64>::new(&name).open(&mut reg, AccessMode::ReadWrite)?;
+    let opened = open::<process_local::Storage<i64>>(&mut reg, &name)?;
     assert_eq!(rt; *opened.get(&reg), 444);
     Ok(())
 }
 
 #[test]
 fn the_version_of_a_name_that_is_not_there_is_not_set(rt: HostRuntime) -> Result<(), Fail> {
-    let name = FileName::new(b"myDynStorage").ok_or("a file name")?;
+    let name = my_name()?;
     let mut reg = Registry::<i64>::new(rt.alloc());
     let path = Configuration::<i64>::default().path_for(&name)?;
     assert!(rt; !reg.set_version(&path, 9003));

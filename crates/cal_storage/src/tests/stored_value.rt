@@ -3,6 +3,7 @@ ghost use Rattle.std.specs.Prelude.{◌≡◌, Some, IfOk, OnOk, OnErr};
 ghost use Rattle.cal_names.specs.ConceptSettings.{file_path_for};
 ghost use Rattle.cal_storage.specs.Contents.{value_at};
 
+use super::fixtures::my_name;
 use crate::dynamic_storage::{file, process_local};
 use crate::{
     AccessMode, DynamicStorage, DynamicStorageBuilder, DynamicStorageCreateError, Registry,
@@ -34,8 +35,7 @@ fn stored_and_read<S: DynamicStorage<i64>>(
     reg: &mut Registry<i64>,
     value: i64,
 ) -> Result<i64, Fail> {
-    let name = FileName::new(b"myDynStorage").ok_or("a file name")?;
-    Ok(store::<S>(reg, &name, value)?)
+    Ok(store::<S>(reg, &my_name()?, value)?)
 }
 
 #[test]
