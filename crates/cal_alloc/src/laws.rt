@@ -3,6 +3,7 @@
 
 ghost use Rattle.std.specs.Prelude.{◌≡◌, ℕ, List, []};
 ghost use Rattle.cal_alloc.specs.Chunks.{chunk_size};
+ghost use Rattle.cal_alloc.specs.declared.allocation_strategy.AllocationStrategy.{AllocationStrategy};
 ghost use Rattle.cal_alloc.specs.declared.allocation_strategy.AllocationStrategy.TheVariants.{Static};
 ghost use Rattle.cal_alloc.specs.Runs.{OutChunk, Step, IsRun, AreApart, AreWithin};
 
@@ -21,8 +22,7 @@ pub fn chunks_that_are_out_are_apart<A: ShmAllocator>()
 {}
 
 /// Where no strategy is chosen, memory never grows.
-pub fn memory_never_grows_by_default() -> AllocationStrategy
-    ensures never_grows { result ≡ Static }
-{
-    AllocationStrategy::default()
-}
+pub fn memory_never_grows_by_default()
+    ensures never_grows { (strategy : AllocationStrategy) →
+        ⟦<AllocationStrategy as Default>⟧.is_default strategy → strategy ≡ Static }
+{}
