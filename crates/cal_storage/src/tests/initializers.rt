@@ -5,7 +5,7 @@ use super::fixtures::{create, long_name, my_name, open};
 use crate::dynamic_storage::{file, process_local};
 use crate::{DynamicStorage, DynamicStorageBuilder, Registry};
 use cal_alloc::{BumpAllocator, Layout, ShmAllocationError, ShmAllocator};
-use cal_names::NamedConceptBuilder;
+use cal_names::{FileName, NamedConceptBuilder};
 use std::alloc::Global;
 use std::process::Abort;
 use std::test::Fail;
@@ -42,6 +42,19 @@ fn an_initializer_leaves_the_value<S: DynamicStorage<i64>>(
     Ok(())
 }
 
+/// Whether a storage of this name is created, and how often its initializer is called.
+fn create_and_count<S: DynamicStorage<i64>>(
+    reg: &mut Registry<i64>,
+    name: &FileName,
+) -> (bool, u32) {
+    let mut calls = 0u32;
+    let created = S::Builder::new(name).create(reg, 444, |_, _| {
+        calls = calls.saturating_add(1);
+        true
+    });
+    (created.is_ok(), calls)
+}
+
 /// An initializer is called once by a creation that succeeds, and by none that is refused for its path.
 fn an_initializer_is_called_once<S: DynamicStorage<i64>>(
     rt: &impl Abort,
@@ -49,17 +62,9 @@ fn an_initializer_is_called_once<S: DynamicStorage<i64>>(
 ) -> Result<(), Fail> {
     let name = my_name()?;
     let mut reg = Registry::new(alloc);
-    let mut calls = 0u32;
-    let mut count = |_value: &mut i64, _allocator: &mut BumpAllocator| -> bool {
-        calls = calls.saturating_add(1);
-        true
-    };
-    let _made = S::Builder::new(&name).create(&mut reg, 444, &mut count)?;
-    let taken = S::Builder::new(&name).create(&mut reg, 444, &mut count);
-    let too_long = S::Builder::new(&long_name()?).create(&mut reg, 444, &mut count);
-    assert_eq!(rt; calls, 1);
-    assert!(rt; taken.is_err());
-    assert!(rt; too_long.is_err());
+    assert_eq!(rt; create_and_count::<S>(&mut reg, &name), (true, 1));
+    assert_eq!(rt; create_and_count::<S>(&mut reg, &name), (false, 0));
+    assert_eq!(rt; create_and_count::<S>(&mut reg, &long_name()?), (false, 0));
     Ok(())
 }
 

@@ -90,26 +90,45 @@ fn make_six<S: DynamicStorage<i64>>(
     make_under_prefix::<S>(reg, &other, prefix)
 }
 
+/// The names that are listed.
+fn listed<S: DynamicStorage<i64>>(alloc: Global, reg: &Registry<i64>) -> Result<String, Fail> {
+    let names = S::list(alloc, reg)?;
+    joined(alloc, names.as_slice())
+}
+
+/// The names that are listed under a prefix.
+fn listed_under<S: DynamicStorage<i64>>(
+    alloc: Global,
+    reg: &Registry<i64>,
+    prefix: &FileName,
+) -> Result<String, Fail> {
+    let config = S::Configuration::default().prefix(prefix);
+    let names = S::list_cfg(alloc, reg, &config)?;
+    joined(alloc, names.as_slice())
+}
+
 /// The names are listed in the order of the bytes of their paths, in which `-` comes before `.`. Those under another
 /// prefix are listed where this is asked for.
 fn names_are_listed<S: DynamicStorage<i64>>(rt: &impl Abort, alloc: Global) -> Result<(), Fail> {
     let mut reg = Registry::new(alloc);
     let prefix = FileName::new(b"hidden_").ok_or("a file name")?;
     make_six::<S>(&mut reg, &prefix)?;
-    let names = S::list(alloc, &reg)?;
-    assert_eq!(rt; joined(alloc, names.as_slice())?.as_str(), "B a- a ab b ");
-    let config = S::Configuration::default().prefix(&prefix);
-    let names = S::list_cfg(alloc, &reg, &config)?;
-    assert_eq!(rt; joined(alloc, names.as_slice())?.as_str(), "other ");
+    assert_eq!(rt; listed::<S>(alloc, &reg)?.as_str(), "B a- a ab b ");
+    assert_eq!(rt; listed_under::<S>(alloc, &reg, &prefix)?.as_str(), "other ");
     assert_eq!(rt; reg.len(), 6);
     Ok(())
+}
+
+/// Where a storage of this name is kept.
+fn path_of<S: DynamicStorage<i64>>(name: &FileName) -> Result<FilePath, Fail> {
+    Ok(S::Configuration::default().path_for(name)?)
 }
 
 /// A registry has the path of a name, and of no other.
 fn a_path_is_there<S: DynamicStorage<i64>>(rt: &impl Abort, alloc: Global) -> Result<(), Fail> {
     let name = my_name()?;
+    let path = path_of::<S>(&name)?;
     let mut reg = Registry::new(alloc);
-    let path = S::Configuration::default().path_for(&name)?;
     assert!(rt; !reg.contains(&path));
     let _made = create::<S>(&mut reg, &name, 444)?;
     assert!(rt; reg.contains(&path));
