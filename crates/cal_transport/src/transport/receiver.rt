@@ -22,7 +22,7 @@ impl Transport {
             return Ok(None);
         };
         let pointer = PointerOffset::from_value(value);
-        let bucket = pointer.offset() / self.pool.bucket_size();
+        let bucket = self.pool.bucket_of(pointer);
         let found = record_at(&self.records, &self.record_indices, bucket);
         self.borrowed += 1;
         self.records[found.index] = ChunkRecord {

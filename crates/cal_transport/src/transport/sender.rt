@@ -35,7 +35,7 @@ impl Transport {
             Err(error) => return Err(refusal_of(error)),
         };
         let place = pointer.offset();
-        let bucket = place / self.pool.bucket_size();
+        let bucket = self.pool.bucket_of(pointer);
         clear(&mut self.memory, place, self.pool.bucket_size());
         self.record_indices[bucket] = self.records.len();
         self.records.push_reserved(ChunkRecord {
@@ -133,7 +133,7 @@ impl Transport {
             return Ok(None);
         };
         let pointer = PointerOffset::from_value(value);
-        let bucket = pointer.offset() / self.pool.bucket_size();
+        let bucket = self.pool.bucket_of(pointer);
         let found = record_at(&self.records, &self.record_indices, bucket);
         self.used.remove(bucket);
         free_unless_live(&mut self.pool, found.entry.loaned, pointer);

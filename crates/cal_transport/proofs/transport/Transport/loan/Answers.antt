@@ -1,4 +1,5 @@
 use Rattle.std.proofs.Common.{◌-◌, ◌/◌, vec_len, vec_capacity, set, replicate, sym, ap, ◌∙◌, subst}
+use Rattle.cal_alloc.specs.PointerOffset.{offset_of}
 use Rattle.cal_transport.specs.declared.command.Command.TheVariants as command
 use Rattle.cal_transport.specs.declared.reply.Reply.TheVariants.{Loaned, Refused}
 use Rattle.cal_transport.specs.Step.{with_bytes}
@@ -27,19 +28,19 @@ invariant_of-self-2 c = sound_after (parts_of c.self.inside) _ c.args.name (comm
     (Loaned (record { chunk = c.args.name; segment = 0; place = c.offset-place.result })) c.self.invariant.0
     c.self.invariant.1
     (loaned_by (parts_of c.self.inside) c.args.name c.args.size c.args.alignment c.in-Some.layout c.in-Ok.pointer
-    c.offset-place.result (c.offset-place.result / c.bucket_size.result) c.allocate.new.self
+    c.offset-place.result c.bucket_of-bucket.result c.allocate.new.self
     c.clear.new.memory.items c.push_reserved.new.self.items
-    (set c.self.inside.record_indices.items (c.offset-place.result / c.bucket_size.result) c.len.result)
+    (set c.self.inside.record_indices.items c.bucket_of-bucket.result c.len.result)
     (vec_capacity c.push_reserved.new.self - vec_len c.push_reserved.new.self)
     (subst (λ p. AreBelow p.records c.args.name) (sym c.self.view_is) c.requires.below)
     c.self.invariant.1.ready.size c.in-Some.ensures.value.1 c.in-Some.ensures.value.0 c.in-Ok.ensures.refused
     c.in-Ok.ensures.given c.offset-place.ensures.value
-    (ap (λ n. c.offset-place.result / n)
-    (c.bucket_size.ensures.value ∙ ap (λ q. q.buckets.size) c.in-Ok.ensures.given.after))
+    (c.bucket_of-bucket.ensures.value ∙ ap (λ q. offset_of c.in-Ok.pointer / q.buckets.size) c.in-Ok.ensures.given.after
+    ∙ ap (λ n. n / c.self.inside.pool.buckets.size) (sym c.offset-place.ensures.value))
     (c.clear.ensures.written ∙ ap (λ n. with_bytes c.self.inside.memory.items c.offset-place.result (replicate n 0))
-    (c.bucket_size-2.ensures.value ∙ ap (λ q. q.buckets.size) c.in-Ok.ensures.given.after))
+    (c.bucket_size.ensures.value ∙ ap (λ q. q.buckets.size) c.in-Ok.ensures.given.after))
     c.push_reserved.ensures.items
-    (ap (set c.self.inside.record_indices.items (c.offset-place.result / c.bucket_size.result))
+    (ap (set c.self.inside.record_indices.items c.bucket_of-bucket.result)
     (c.len.ensures ∙ c.self.inside.records.ok.0)))
 
 pub returns-clause-step : goal.returns-clause-step
@@ -51,26 +52,26 @@ returns-clause-step c = subst
       memory = c.clear.new.memory.items;
       records = c.push_reserved.new.self.items;
       record_indices =
-          set c.self.inside.record_indices.items (c.offset-place.result / c.bucket_size.result) c.len.result;
+          set c.self.inside.record_indices.items c.bucket_of-bucket.result c.len.result;
       room = (vec_capacity c.push_reserved.new.self - vec_len c.push_reserved.new.self);
     })) c.self.view_is
     (loaned_by (parts_of c.self.inside) c.args.name c.args.size c.args.alignment c.in-Some.layout c.in-Ok.pointer
-    c.offset-place.result (c.offset-place.result / c.bucket_size.result) c.allocate.new.self
+    c.offset-place.result c.bucket_of-bucket.result c.allocate.new.self
     c.clear.new.memory.items c.push_reserved.new.self.items
-    (set c.self.inside.record_indices.items (c.offset-place.result / c.bucket_size.result) c.len.result)
+    (set c.self.inside.record_indices.items c.bucket_of-bucket.result c.len.result)
     (vec_capacity c.push_reserved.new.self - vec_len c.push_reserved.new.self)
     (subst (λ p. AreBelow p.records c.args.name) (sym c.self.view_is) c.requires.below)
     c.self.invariant.1.ready.size c.in-Some.ensures.value.1 c.in-Some.ensures.value.0 c.in-Ok.ensures.refused
     c.in-Ok.ensures.given c.offset-place.ensures.value
-    (ap (λ n. c.offset-place.result / n)
-    (c.bucket_size.ensures.value ∙ ap (λ q. q.buckets.size) c.in-Ok.ensures.given.after))
+    (c.bucket_of-bucket.ensures.value ∙ ap (λ q. offset_of c.in-Ok.pointer / q.buckets.size) c.in-Ok.ensures.given.after
+    ∙ ap (λ n. n / c.self.inside.pool.buckets.size) (sym c.offset-place.ensures.value))
     (c.clear.ensures.written ∙ ap (λ n. with_bytes c.self.inside.memory.items c.offset-place.result (replicate n 0))
-    (c.bucket_size-2.ensures.value ∙ ap (λ q. q.buckets.size) c.in-Ok.ensures.given.after))
+    (c.bucket_size.ensures.value ∙ ap (λ q. q.buckets.size) c.in-Ok.ensures.given.after))
     c.push_reserved.ensures.items
-    (ap (set c.self.inside.record_indices.items (c.offset-place.result / c.bucket_size.result))
+    (ap (set c.self.inside.record_indices.items c.bucket_of-bucket.result)
     (c.len.ensures ∙ c.self.inside.records.ok.0)))
 
 pub returns-clause-named : goal.returns-clause-named
 returns-clause-named c = below_loaned c.self.inside.records.items c.push_reserved.new.self.items c.args.name
-    (c.offset-place.result / c.bucket_size.result)
+    c.bucket_of-bucket.result
     (subst (λ p. AreBelow p.records c.args.name) (sym c.self.view_is) c.requires.below) c.push_reserved.ensures.items

@@ -14,15 +14,14 @@ use Rattle.cal_transport.proofs.transport.Transport.receive.Goals as goal
 
 pub record_at-found-requires : goal.record_at-found-requires
 record_at-found-requires c = record {
-  leads = subst (λ es. LeadsToRecord es c.deref-2.result.now (c.offset.result / c.bucket_size.result))
+  leads = subst (λ es. LeadsToRecord es c.deref-2.result.now c.bucket_of-bucket.result)
       (sym c.deref.ensures.value)
-      (subst (λ os. LeadsToRecord c.self.inside.records.items os (c.offset.result / c.bucket_size.result))
+      (subst (λ os. LeadsToRecord c.self.inside.records.items os c.bucket_of-bucket.result)
       (sym c.deref-2.ensures.value)
       (receive_leads (parts_of c.self.inside) c.self.invariant.0 c.in-Some-pop.value
-      (c.offset.result / c.bucket_size.result) c.self.invariant.1 c.in-Some-pop.ensures.oldest
-      (ap (λ n. c.offset.result / n) c.bucket_size.ensures.value ∙ ap
-      (λ n. n / c.self.inside.pool.buckets.size)
-      (c.offset.ensures.value ∙ ap offset_of c.from_value-pointer.ensures.value))));
+      c.bucket_of-bucket.result c.self.invariant.1 c.in-Some-pop.ensures.oldest
+      (c.bucket_of-bucket.ensures.value ∙ ap (λ n. offset_of n / c.self.inside.pool.buckets.size)
+      c.from_value-pointer.ensures.value)));
 }
 
 pub index_mut-requires : goal.index_mut-requires
@@ -34,18 +33,17 @@ index_mut-requires c =
 
 pub invariant_of-self-2 : goal.invariant_of-self-2
 invariant_of-self-2 c = sound_after (parts_of c.self.inside) _ 0 (command.Receive c.args.channel)
-    (Received (Some (record { chunk = c.record_at-found.result.entry.name; segment = 0; place = c.offset-2.result })))
+    (Received (Some (record { chunk = c.record_at-found.result.entry.name; segment = 0; place = c.offset.result })))
     c.self.invariant.0 c.self.invariant.1
     (received_by (parts_of c.self.inside) c.args.channel c.in-Some-pop.value c.record_at-found.result.index
-    (c.offset.result / c.bucket_size.result) c.offset-2.result c.record_at-found.result.entry c.pop.new.self
+    c.bucket_of-bucket.result c.offset.result c.record_at-found.result.entry c.pop.new.self
     (c.in_default.ensures.rule ∙ ap (λ p. receive_rule p c.args.channel) (sym c.self.view_is))
     c.in-Some-pop.ensures.oldest
-    (ap (λ n. c.offset.result / n) c.bucket_size.ensures.value ∙ ap
-    (λ n. n / c.self.inside.pool.buckets.size)
-    (c.offset.ensures.value ∙ ap offset_of c.from_value-pointer.ensures.value))
-    (ap (λ o. slice_get o (c.offset.result / c.bucket_size.result)) (sym c.deref-2.ensures.value)
+    (c.bucket_of-bucket.ensures.value ∙ ap (λ n. offset_of n / c.self.inside.pool.buckets.size)
+    c.from_value-pointer.ensures.value)
+    (ap (λ o. slice_get o c.bucket_of-bucket.result) (sym c.deref-2.ensures.value)
     ∙ c.record_at-found.ensures.owner) (ap (λ e. slice_get e c.record_at-found.result.index) (sym c.deref.ensures.value)
-    ∙ c.record_at-found.ensures.entry) (c.offset-2.ensures.value ∙ ap offset_of c.from_value-pointer.ensures.value)
+    ∙ c.record_at-found.ensures.entry) (c.offset.ensures.value ∙ ap offset_of c.from_value-pointer.ensures.value)
     c.in-Some-pop.ensures.left 0)
 
 pub returns-clause-step : goal.returns-clause-step
@@ -54,21 +52,20 @@ returns-clause-step c =
     (Received (Some (record {
       chunk = c.record_at-found.result.entry.name;
       segment = 0;
-      place = c.offset-2.result;
+      place = c.offset.result;
     })))
     (record (received_parts (parts_of c.self.inside) c.record_at-found.result.index c.record_at-found.result.entry)
     { submissions = c.pop.new.self })) c.self.view_is
     (received_by (parts_of c.self.inside) c.args.channel c.in-Some-pop.value c.record_at-found.result.index
-    (c.offset.result / c.bucket_size.result) c.offset-2.result c.record_at-found.result.entry c.pop.new.self
+    c.bucket_of-bucket.result c.offset.result c.record_at-found.result.entry c.pop.new.self
     (c.in_default.ensures.rule ∙ ap (λ p. receive_rule p c.args.channel) (sym c.self.view_is))
     c.in-Some-pop.ensures.oldest
-    (ap (λ n. c.offset.result / n) c.bucket_size.ensures.value ∙ ap
-    (λ n. n / c.self.inside.pool.buckets.size)
-    (c.offset.ensures.value ∙ ap offset_of c.from_value-pointer.ensures.value))
-    (ap (λ o. slice_get o (c.offset.result / c.bucket_size.result)) (sym c.deref-2.ensures.value)
+    (c.bucket_of-bucket.ensures.value ∙ ap (λ n. offset_of n / c.self.inside.pool.buckets.size)
+    c.from_value-pointer.ensures.value)
+    (ap (λ o. slice_get o c.bucket_of-bucket.result) (sym c.deref-2.ensures.value)
     ∙ c.record_at-found.ensures.owner)
     (ap (λ e. slice_get e c.record_at-found.result.index) (sym c.deref.ensures.value)
-    ∙ c.record_at-found.ensures.entry) (c.offset-2.ensures.value ∙ ap offset_of c.from_value-pointer.ensures.value)
+    ∙ c.record_at-found.ensures.entry) (c.offset.ensures.value ∙ ap offset_of c.from_value-pointer.ensures.value)
     c.in-Some-pop.ensures.left place)
 
 pub returns-in-Some-clause-step : goal.returns-in-Some-clause-step
