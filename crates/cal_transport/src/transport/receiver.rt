@@ -99,7 +99,7 @@ impl Transport {
         if let Some(refusal) = self.release_refusal(found.entry) {
             return Err(refusal);
         }
-        let pointer = PointerOffset::new(found.entry.bucket * self.pool.bucket_size());
+        let pointer = self.pool.offset_of_bucket(found.entry.bucket);
         self.completions.push(pointer.as_value());
         self.borrowed -= 1;
         self.records[found.index] = ChunkRecord {

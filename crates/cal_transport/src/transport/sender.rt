@@ -94,7 +94,7 @@ impl Transport {
         if let Some(refusal) = self.send_refusal(channel, found.entry) {
             return Err(refusal);
         }
-        let pointer = PointerOffset::new(found.entry.bucket * self.pool.bucket_size());
+        let pointer = self.pool.offset_of_bucket(found.entry.bucket);
         self.submissions.push(pointer.as_value());
         self.used.insert(found.entry.bucket);
         self.records[found.index] = ChunkRecord {
@@ -155,7 +155,7 @@ impl Transport {
         if !found.entry.loaned {
             return Err(Refusal::NotLoaned);
         }
-        let pointer = PointerOffset::new(found.entry.bucket * self.pool.bucket_size());
+        let pointer = self.pool.offset_of_bucket(found.entry.bucket);
         let in_transit = self.is_in_transit(found.entry.bucket);
         free_unless_live(&mut self.pool, in_transit, pointer);
         self.records[found.index] = ChunkRecord {

@@ -27,29 +27,21 @@ returns-then-not-found-clause-step c =
     (c.deref.ensures.value ∙ ap (λ p. p.records) c.self.view_is) c.in-Some.ensures.found)
     (not_true c.in-Some.found.entry.loaned c.if-not-found.true)
 
-pub overflow_mul-found : goal.overflow_mul-found
-overflow_mul-found c =
+pub offset_of_bucket-pointer-requires : goal.offset_of_bucket-pointer-requires
+offset_of_bucket-pointer-requires c =
     let within = entry_within (parts_of c.self.inside) c.self.invariant.0 c.args.chunk c.in-Some.found
     c.self.invariant.1 (subst
     (λ es. IsFound es c.args.chunk c.in-Some.found) c.deref.ensures.value c.in-Some.ensures.found) in
-    rw c.bucket_size.ensures.value (let size = c.self.invariant.1.ready.size in omega arith)
-
-pub new-pointer-requires : goal.new-pointer-requires
-new-pointer-requires c =
-    let within = entry_within (parts_of c.self.inside) c.self.invariant.0 c.args.chunk c.in-Some.found
-    c.self.invariant.1 (subst
-    (λ es. IsFound es c.args.chunk c.in-Some.found) c.deref.ensures.value c.in-Some.ensures.found) in
-    record { below = rw c.bucket_size.ensures.value (let size = c.self.invariant.1.ready.size in omega arith) }
+    record { exists = within.bucket }
 
 pub free_unless_live-requires : goal.free_unless_live-requires
 free_unless_live-requires c =
     record {
-      used = discard_used (parts_of c.self.inside) c.self.invariant.0 c.args.chunk c.new-pointer.result
+      used = discard_used (parts_of c.self.inside) c.self.invariant.0 c.args.chunk c.offset_of_bucket-pointer.result
           c.in-Some.found c.self.invariant.1
           (subst (λ es. IsFound es c.args.chunk c.in-Some.found) c.deref.ensures.value c.in-Some.ensures.found)
           (not_false c.in-Some.found.entry.loaned c.if-not-found.false)
-          (c.new-pointer.ensures.value ∙ ap
-          (λ n. pointer_offset (c.in-Some.found.entry.bucket * n) 0) c.bucket_size.ensures.value);
+          (c.offset_of_bucket-pointer.ensures.value);
     }
 
 pub index_mut-requires : goal.index_mut-requires
@@ -61,13 +53,12 @@ index_mut-requires c =
 pub invariant_of-self : goal.invariant_of-self
 invariant_of-self c = sound_after (parts_of c.self.inside) _ 0 (command.Discard c.args.chunk) Discarded
     c.self.invariant.0 c.self.invariant.1
-    (discarded (parts_of c.self.inside) c.args.chunk c.new-pointer.result c.in-Some.found c.free_unless_live.new.pool
+    (discarded (parts_of c.self.inside) c.args.chunk c.offset_of_bucket-pointer.result c.in-Some.found c.free_unless_live.new.pool
     (subst (λ es. IsFound es c.args.chunk c.in-Some.found) c.deref.ensures.value c.in-Some.ensures.found)
     (not_false c.in-Some.found.entry.loaned c.if-not-found.false)
-    (c.new-pointer.ensures.value ∙ ap
-    (λ n. pointer_offset (c.in-Some.found.entry.bucket * n) 0) c.bucket_size.ensures.value)
+    (c.offset_of_bucket-pointer.ensures.value)
     (c.free_unless_live.ensures.freed ∙ ap
-    (λ b. cond b c.self.inside.pool (after_deallocation c.self.inside.pool c.new-pointer.result))
+    (λ b. cond b c.self.inside.pool (after_deallocation c.self.inside.pool c.offset_of_bucket-pointer.result))
     (c.is_in_transit-in_transit.ensures.used ∙ ap
     (λ p. contains p.used c.in-Some.found.entry.bucket) (sym c.self.view_is))) 0)
 
@@ -76,13 +67,12 @@ returns-clause-step c =
     λ place. subst (λ p. Does p place (command.Discard c.args.chunk) Discarded
     (discarded_parts (parts_of c.self.inside) c.in-Some.found.index c.in-Some.found.entry
     c.free_unless_live.new.pool)) c.self.view_is
-    (discarded (parts_of c.self.inside) c.args.chunk c.new-pointer.result c.in-Some.found
+    (discarded (parts_of c.self.inside) c.args.chunk c.offset_of_bucket-pointer.result c.in-Some.found
     c.free_unless_live.new.pool
     (subst (λ es. IsFound es c.args.chunk c.in-Some.found) c.deref.ensures.value c.in-Some.ensures.found)
     (not_false c.in-Some.found.entry.loaned c.if-not-found.false)
-    (c.new-pointer.ensures.value ∙ ap
-    (λ n. pointer_offset (c.in-Some.found.entry.bucket * n) 0) c.bucket_size.ensures.value)
+    (c.offset_of_bucket-pointer.ensures.value)
     (c.free_unless_live.ensures.freed ∙ ap
-    (λ b. cond b c.self.inside.pool (after_deallocation c.self.inside.pool c.new-pointer.result))
+    (λ b. cond b c.self.inside.pool (after_deallocation c.self.inside.pool c.offset_of_bucket-pointer.result))
     (c.is_in_transit-in_transit.ensures.used ∙ ap
     (λ p. contains p.used c.in-Some.found.entry.bucket) (sym c.self.view_is))) place)

@@ -28,19 +28,12 @@ returns-in-Some-release_refusal-clause-step c =
     c.in-Some.ensures.found)
     (sym c.in-Some-release_refusal.ensures.rule)
 
-pub overflow_mul-found : goal.overflow_mul-found
-overflow_mul-found c =
+pub offset_of_bucket-pointer-requires : goal.offset_of_bucket-pointer-requires
+offset_of_bucket-pointer-requires c =
     let within = entry_within (parts_of c.self.inside) c.self.invariant.0 c.args.chunk c.in-Some.found
     c.self.invariant.1 (subst
     (λ es. IsFound es c.args.chunk c.in-Some.found) c.deref.ensures.value c.in-Some.ensures.found) in
-    rw c.bucket_size.ensures.value (let size = c.self.invariant.1.ready.size in omega arith)
-
-pub new-pointer-requires : goal.new-pointer-requires
-new-pointer-requires c =
-    let within = entry_within (parts_of c.self.inside) c.self.invariant.0 c.args.chunk c.in-Some.found
-    c.self.invariant.1 (subst
-    (λ es. IsFound es c.args.chunk c.in-Some.found) c.deref.ensures.value c.in-Some.ensures.found) in
-    record { below = rw c.bucket_size.ensures.value (let size = c.self.invariant.1.ready.size in omega arith) }
+    record { exists = within.bucket }
 
 pub overflow_sub-self : goal.overflow_sub-self
 overflow_sub-self c = borrows_some (parts_of c.self.inside) c.self.invariant.0 c.args.chunk c.in-Some.found
@@ -63,8 +56,7 @@ invariant_of-self c = sound_after (parts_of c.self.inside) _ 0 (command.Release 
     (let t : c.args.channel < c.self.inside.settings.channels = omega arith in t)
     (subst (λ es. IsFound es c.args.chunk c.in-Some.found) c.deref.ensures.value c.in-Some.ensures.found)
     (c.in_default-release_refusal.ensures.rule ∙ ap (λ p. release_rule p c.in-Some.found.entry) (sym c.self.view_is))
-    (c.as_value.ensures.value ∙ c.new-pointer.ensures.value ∙ ap
-    (λ n. pointer_offset (c.in-Some.found.entry.bucket * n) 0) c.bucket_size.ensures.value)
+    (c.as_value.ensures.value ∙ c.offset_of_bucket-pointer.ensures.value)
     (release_joins c.push.result c.self.inside.completions c.push.new.self c.as_value.result (parts_of c.self.inside)
     c.in-Some.found.entry (c.in_default-release_refusal.ensures.rule ∙ ap
     (λ p. release_rule p c.in-Some.found.entry) (sym c.self.view_is)) c.push.ensures.room c.push.ensures.joined) 0)
@@ -79,8 +71,7 @@ returns-clause-step c =
     (subst (λ es. IsFound es c.args.chunk c.in-Some.found) c.deref.ensures.value c.in-Some.ensures.found)
     (c.in_default-release_refusal.ensures.rule ∙ ap
     (λ p. release_rule p c.in-Some.found.entry) (sym c.self.view_is))
-    (c.as_value.ensures.value ∙ c.new-pointer.ensures.value ∙ ap
-    (λ n. pointer_offset (c.in-Some.found.entry.bucket * n) 0) c.bucket_size.ensures.value)
+    (c.as_value.ensures.value ∙ c.offset_of_bucket-pointer.ensures.value)
     (release_joins c.push.result c.self.inside.completions c.push.new.self c.as_value.result
     (parts_of c.self.inside) c.in-Some.found.entry
     (c.in_default-release_refusal.ensures.rule ∙ ap

@@ -24,19 +24,12 @@ returns-in-Some-send_refusal-clause-step c =
     c.in-Some.ensures.found)
     (sym c.in-Some-send_refusal.ensures.rule)
 
-pub overflow_mul-found : goal.overflow_mul-found
-overflow_mul-found c =
+pub offset_of_bucket-pointer-requires : goal.offset_of_bucket-pointer-requires
+offset_of_bucket-pointer-requires c =
     let within = entry_within (parts_of c.self.inside) c.self.invariant.0 c.args.chunk c.in-Some.found
     c.self.invariant.1 (subst
     (λ es. IsFound es c.args.chunk c.in-Some.found) c.deref.ensures.value c.in-Some.ensures.found) in
-    rw c.bucket_size.ensures.value (let size = c.self.invariant.1.ready.size in omega arith)
-
-pub new-pointer-requires : goal.new-pointer-requires
-new-pointer-requires c =
-    let within = entry_within (parts_of c.self.inside) c.self.invariant.0 c.args.chunk c.in-Some.found
-    c.self.invariant.1 (subst
-    (λ es. IsFound es c.args.chunk c.in-Some.found) c.deref.ensures.value c.in-Some.ensures.found) in
-    record { below = rw c.bucket_size.ensures.value (let size = c.self.invariant.1.ready.size in omega arith) }
+    record { exists = within.bucket }
 
 pub index_mut-requires : goal.index_mut-requires
 index_mut-requires c =
@@ -52,8 +45,7 @@ invariant_of-self c = sound_after (parts_of c.self.inside) _ 0 (command.Send c.a
     (λ es. IsFound es c.args.chunk c.in-Some.found) c.deref.ensures.value c.in-Some.ensures.found)
     (c.in_default-send_refusal.ensures.rule ∙ ap
     (λ p. send_rule p c.args.channel c.in-Some.found.entry) (sym c.self.view_is))
-    (c.as_value.ensures.value ∙ c.new-pointer.ensures.value ∙ ap
-    (λ n. pointer_offset (c.in-Some.found.entry.bucket * n) 0) c.bucket_size.ensures.value) c.push.ensures.joined
+    (c.as_value.ensures.value ∙ c.offset_of_bucket-pointer.ensures.value) c.push.ensures.joined
     c.insert.ensures.now_present 0)
 
 pub returns-clause-step : goal.returns-clause-step
@@ -66,6 +58,5 @@ returns-clause-step c =
     (λ es. IsFound es c.args.chunk c.in-Some.found) c.deref.ensures.value c.in-Some.ensures.found)
     (c.in_default-send_refusal.ensures.rule ∙ ap
     (λ p. send_rule p c.args.channel c.in-Some.found.entry) (sym c.self.view_is))
-    (c.as_value.ensures.value ∙ c.new-pointer.ensures.value ∙ ap
-    (λ n. pointer_offset (c.in-Some.found.entry.bucket * n) 0) c.bucket_size.ensures.value) c.push.ensures.joined
+    (c.as_value.ensures.value ∙ c.offset_of_bucket-pointer.ensures.value) c.push.ensures.joined
     c.insert.ensures.now_present place)
