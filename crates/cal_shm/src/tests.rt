@@ -2,6 +2,7 @@
 
 mod bump_segments;
 mod names;
+mod round_trip;
 mod shared_bytes;
 mod texts;
 mod worked_example;
