@@ -1,41 +1,41 @@
 //! The names and paths of segments.
-use crate::{SharedMemory, SharedMemoryBuilder, SharedMemoryOpenError, file, process_local};
+use super::fixtures::{create, my_name, open};
+use crate::{SharedMemory, SharedMemoryOpenError, file, process_local};
 use cal_alloc::{PoolAllocator, ShmAllocator};
-use cal_names::{FileName, NamedConceptBuilder, NamedConceptConfiguration};
-use cal_storage::{AccessMode, Registry};
+use cal_names::{FileName, NamedConceptConfiguration};
+use cal_storage::Registry;
 use std::alloc::Global;
 use std::process::Abort;
 use std::test::Fail;
 
-/// A segment is listed by its name, and not found any more once it is removed.
-fn a_segment_is_listed_and_removed<A: ShmAllocator, M: SharedMemory<A>>(
+/// A segment is listed by its name.
+fn a_segment_is_listed<A: ShmAllocator, M: SharedMemory<A>>(
     rt: &impl Abort,
     alloc: Global,
 ) -> Result<(), Fail> {
-    let name = FileName::new(b"mem").ok_or("a file name")?;
+    let name = my_name()?;
     let mut reg = Registry::new(alloc);
-    let config = A::Configuration::default();
-    let _memory = M::Builder::new(&name)
-        .size(2048)
-        .create(alloc, &mut reg, &config)?;
+    let _memory = create::<A, M>(alloc, &mut reg, &name, 2048, &A::Configuration::default())?;
     let names = M::list(alloc, &reg)?;
     assert_eq!(rt; names.as_slice(), [name].as_slice());
     assert_eq!(rt; M::does_exist(&reg, &name), Ok(true));
-    assert_eq!(rt; M::remove(alloc, &mut reg, &name), Ok(true));
-    assert_eq!(rt; M::does_exist(&reg, &name), Ok(false));
-    assert!(rt; !M::remove_name(&mut reg, &name, &M::Configuration::default()));
-    let refused = M::Builder::new(&name).open(&mut reg, AccessMode::Read);
-    assert_eq!(rt; refused.err(), Some(SharedMemoryOpenError::DoesNotExist));
     Ok(())
 }
 
-#[test]
-fn segments_are_listed_and_removed(rt: HostRuntime) -> Result<(), Fail> {
-    let alloc = rt.alloc();
-    a_segment_is_listed_and_removed::<PoolAllocator, process_local::Memory<PoolAllocator>>(
-        &rt, alloc,
-    )?;
-    a_segment_is_listed_and_removed::<PoolAllocator, file::Memory<PoolAllocator>>(&rt, alloc)
+/// It is not found any more once it is removed.
+fn a_segment_is_removed<A: ShmAllocator, M: SharedMemory<A>>(
+    rt: &impl Abort,
+    alloc: Global,
+) -> Result<(), Fail> {
+    let name = my_name()?;
+    let mut reg = Registry::new(alloc);
+    let _memory = create::<A, M>(alloc, &mut reg, &name, 2048, &A::Configuration::default())?;
+    assert_eq!(rt; M::remove(alloc, &mut reg, &name), Ok(true));
+    assert_eq!(rt; M::does_exist(&reg, &name), Ok(false));
+    assert!(rt; !M::remove_name(&mut reg, &name, &M::Configuration::default()));
+    let refused = open::<A, M>(&mut reg, &name, 0);
+    assert_eq!(rt; refused.err(), Some(SharedMemoryOpenError::DoesNotExist));
+    Ok(())
 }
 
 /// A segment stays under a name that nobody owns, also once its handle has closed.
@@ -43,31 +43,32 @@ fn a_segment_outlives_its_handles<A: ShmAllocator, M: SharedMemory<A>>(
     rt: &impl Abort,
     alloc: Global,
 ) -> Result<(), Fail> {
-    let name = FileName::new(b"mem").ok_or("a file name")?;
+    let name = my_name()?;
     let mut reg = Registry::new(alloc);
-    let config = A::Configuration::default();
-    let mut memory = M::Builder::new(&name)
-        .size(2048)
-        .create(alloc, &mut reg, &config)?;
+    let mut memory = create::<A, M>(alloc, &mut reg, &name, 2048, &A::Configuration::default())?;
     memory.release_ownership();
     memory.close(&mut reg);
-    let mut memory = M::Builder::new(&name)
-        .timeout(1)
-        .size(2048)
-        .open(&mut reg, AccessMode::ReadWrite)?;
+    let mut memory = open::<A, M>(&mut reg, &name, 2048)?;
     memory.acquire_ownership();
     memory.close(&mut reg);
     assert_eq!(rt; reg.len(), 0);
     Ok(())
 }
 
+/// All of these for one kind of segment.
+fn each_rule<A: ShmAllocator, M: SharedMemory<A>>(
+    rt: &impl Abort,
+    alloc: Global,
+) -> Result<(), Fail> {
+    a_segment_is_listed::<A, M>(rt, alloc)?;
+    a_segment_is_removed::<A, M>(rt, alloc)?;
+    a_segment_outlives_its_handles::<A, M>(rt, alloc)
+}
+
 #[test]
-fn segments_outlive_their_handles(rt: HostRuntime) -> Result<(), Fail> {
-    let alloc = rt.alloc();
-    a_segment_outlives_its_handles::<PoolAllocator, process_local::Memory<PoolAllocator>>(
-        &rt, alloc,
-    )?;
-    a_segment_outlives_its_handles::<PoolAllocator, file::Memory<PoolAllocator>>(&rt, alloc)
+fn each_rule_of_names(rt: HostRuntime) -> Result<(), Fail> {
+    each_rule::<PoolAllocator, process_local::Memory<PoolAllocator>>(&rt, rt.alloc())?;
+    each_rule::<PoolAllocator, file::Memory<PoolAllocator>>(&rt, rt.alloc())
 }
 
 #[test]

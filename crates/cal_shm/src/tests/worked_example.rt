@@ -1,69 +1,71 @@
 //! The worked example of a segment, for both storages: what is created and opened, and the refusals in their order.
+use super::fixtures::{create, layout, my_name, open, pool_of};
 use crate::{
-    SharedMemory, SharedMemoryBuilder, SharedMemoryCreateError, SharedMemoryForPoolAllocator,
-    SharedMemoryOpenError, file, process_local,
+    AllocatorDetails, SharedMemory, SharedMemoryBuilder, SharedMemoryCreateError,
+    SharedMemoryForPoolAllocator, SharedMemoryOpenError, file, process_local,
 };
-use cal_alloc::pool_allocator::Config;
-use cal_alloc::{Layout, PoolAllocator, ShmAllocationError};
+use cal_alloc::{PoolAllocator, ShmAllocationError};
 use cal_names::{FileName, NamedConcept, NamedConceptBuilder};
-use cal_storage::{AccessMode, Registry};
+use cal_storage::Registry;
 use std::alloc::Global;
 use std::process::Abort;
 use std::test::Fail;
 
-fn config_of(size: usize, alignment: usize) -> Result<Config, Fail> {
-    let bucket_layout = Layout::new(size, alignment).ok_or("a layout")?;
-    Ok(Config { bucket_layout })
-}
-
-/// A segment of 1024 bytes and buckets of 8 has 128 of them. It isn't opened by who asks for more than there is.
-fn a_segment_is_created_and_opened<M: SharedMemory<PoolAllocator>>(
+/// A segment of 1024 bytes and buckets of 8 has 128 of them.
+fn a_segment_is_created<M: SharedMemory<PoolAllocator>>(
     rt: &impl Abort,
     alloc: Global,
 ) -> Result<(), Fail> {
-    let name = FileName::new(b"myShmName").ok_or("a file name")?;
     let mut reg = Registry::new(alloc);
-    let config = config_of(8, 8)?;
-    let first = M::Builder::new(&name)
-        .size(1024)
-        .create(alloc, &mut reg, &config)?;
+    let first = create::<PoolAllocator, M>(alloc, &mut reg, &my_name()?, 1024, &pool_of(8, 8)?)?;
     assert_eq!(rt; first.size(&reg), 1024);
     assert_eq!(rt; first.max_alignment(&reg), 8);
-    assert_eq!(rt; first.payload_start_address(), 0);
     assert_eq!(rt; first.allocator(&reg).number_of_buckets(), 128);
-    assert_eq!(rt; *first.name(), name);
-    assert!(rt; first.has_ownership());
-    assert!(rt; M::does_support_persistency());
-
-    let refused = M::Builder::new(&name)
-        .size(2048)
-        .open(&mut reg, AccessMode::ReadWrite);
-    assert_eq!(rt; refused.err(), Some(SharedMemoryOpenError::SizeDoesNotFit));
-    let second = M::Builder::new(&name)
-        .size(1024)
-        .open(&mut reg, AccessMode::ReadWrite)?;
-    assert!(rt; !second.has_ownership());
-    let third = M::Builder::new(&name).open(&mut reg, AccessMode::Read)?;
-    assert_eq!(rt; third.size(&reg), 1024);
     Ok(())
 }
 
-#[test]
-fn segments_are_created_and_opened(rt: HostRuntime) -> Result<(), Fail> {
-    a_segment_is_created_and_opened::<process_local::Memory<PoolAllocator>>(&rt, rt.alloc())?;
-    a_segment_is_created_and_opened::<file::Memory<PoolAllocator>>(&rt, rt.alloc())
+/// It owns its name, and its payload begins at 0.
+fn a_new_segment_owns_its_name<M: SharedMemory<PoolAllocator>>(
+    rt: &impl Abort,
+    alloc: Global,
+) -> Result<(), Fail> {
+    let name = my_name()?;
+    let mut reg = Registry::new(alloc);
+    let first = create::<PoolAllocator, M>(alloc, &mut reg, &name, 1024, &pool_of(8, 8)?)?;
+    assert_eq!(rt; *first.name(), name);
+    assert!(rt; first.has_ownership());
+    assert_eq!(rt; first.payload_start_address(), 0);
+    assert!(rt; M::does_support_persistency());
+    Ok(())
+}
+
+/// A segment isn't opened by who asks for more than there is. Who opens it doesn't own its name.
+fn a_segment_is_opened<M: SharedMemory<PoolAllocator>>(
+    rt: &impl Abort,
+    alloc: Global,
+) -> Result<(), Fail> {
+    let name = my_name()?;
+    let mut reg = Registry::new(alloc);
+    let _first = create::<PoolAllocator, M>(alloc, &mut reg, &name, 1024, &pool_of(8, 8)?)?;
+    let refused = open::<PoolAllocator, M>(&mut reg, &name, 2048);
+    assert_eq!(rt; refused.err(), Some(SharedMemoryOpenError::SizeDoesNotFit));
+    let second = open::<PoolAllocator, M>(&mut reg, &name, 1024)?;
+    assert!(rt; !second.has_ownership());
+    let third = open::<PoolAllocator, M>(&mut reg, &name, 0)?;
+    assert_eq!(rt; third.size(&reg), 1024);
+    Ok(())
 }
 
 /// Why a segment of this size, with buckets of 8 bytes of this alignment, isn't created.
 fn refusal_of<M: SharedMemory<PoolAllocator>>(
     alloc: Global,
-    reg: &mut Registry<crate::AllocatorDetails<PoolAllocator>>,
+    reg: &mut Registry<AllocatorDetails<PoolAllocator>>,
     name: &[u8],
     size: usize,
     alignment: usize,
 ) -> Result<Option<SharedMemoryCreateError>, Fail> {
     let name = FileName::new(name).ok_or("a file name")?;
-    let config = config_of(8, alignment)?;
+    let config = pool_of(8, alignment)?;
     let created = M::Builder::new(&name)
         .has_ownership(false)
         .size(size)
@@ -114,43 +116,54 @@ fn refusals_come_in_order<M: SharedMemory<PoolAllocator>>(
     Ok(())
 }
 
-#[test]
-fn creations_are_refused_in_order(rt: HostRuntime) -> Result<(), Fail> {
-    refusals_come_in_order::<process_local::Memory<PoolAllocator>>(&rt, rt.alloc())?;
-    refusals_come_in_order::<file::Memory<PoolAllocator>>(&rt, rt.alloc())
-}
-
-/// What a pool refuses, and a bucket that is given back by its offset alone.
-fn buckets_are_handed_out_and_given_back<M: SharedMemoryForPoolAllocator>(
+/// What a pool refuses.
+fn buckets_are_refused<M: SharedMemoryForPoolAllocator>(
     rt: &impl Abort,
     alloc: Global,
 ) -> Result<(), Fail> {
-    let name = FileName::new(b"myShmName").ok_or("a file name")?;
     let mut reg = Registry::new(alloc);
-    let config = config_of(8, 8)?;
-    let memory = M::Builder::new(&name)
-        .size(8)
-        .create(alloc, &mut reg, &config)?;
+    let memory = create::<PoolAllocator, M>(alloc, &mut reg, &my_name()?, 8, &pool_of(8, 8)?)?;
     assert_eq!(rt; memory.bucket_size(&reg), 8);
-    let small = Layout::new(3, 1).ok_or("a layout")?;
-    let large = Layout::new(9, 1).ok_or("a layout")?;
-    let aligned = Layout::new(1, 16).ok_or("a layout")?;
-    let refused = memory.allocate(&mut reg, large);
+    let refused = memory.allocate(&mut reg, layout(9, 1)?);
     assert_eq!(rt; refused.err(), Some(ShmAllocationError::SizeTooLarge));
-    let refused = memory.allocate(&mut reg, aligned);
+    let refused = memory.allocate(&mut reg, layout(1, 16)?);
     assert_eq!(rt;
         refused.err(),
         Some(ShmAllocationError::ExceedsMaxSupportedAlignment)
     );
+    Ok(())
+}
+
+/// The one bucket is handed out once, and again where it was given back, by its offset alone.
+fn a_bucket_is_given_back<M: SharedMemoryForPoolAllocator>(
+    rt: &impl Abort,
+    alloc: Global,
+) -> Result<(), Fail> {
+    let small = layout(3, 1)?;
+    let mut reg = Registry::new(alloc);
+    let memory = create::<PoolAllocator, M>(alloc, &mut reg, &my_name()?, 8, &pool_of(8, 8)?)?;
     let pointer = memory.allocate(&mut reg, small)?;
     assert_eq!(rt; pointer.offset.as_value(), 0);
+    memory.deallocate_bucket(&mut reg, pointer.offset);
+    let again = memory.allocate(&mut reg, small)?;
+    assert_eq!(rt; again.offset.as_value(), 0);
     let refused = memory.allocate(&mut reg, small);
     assert_eq!(rt; refused.err(), Some(ShmAllocationError::OutOfMemory));
     Ok(())
 }
 
+/// All of these for one kind of segment.
+fn each_step<M: SharedMemoryForPoolAllocator>(rt: &impl Abort, alloc: Global) -> Result<(), Fail> {
+    a_segment_is_created::<M>(rt, alloc)?;
+    a_new_segment_owns_its_name::<M>(rt, alloc)?;
+    a_segment_is_opened::<M>(rt, alloc)?;
+    refusals_come_in_order::<M>(rt, alloc)?;
+    buckets_are_refused::<M>(rt, alloc)?;
+    a_bucket_is_given_back::<M>(rt, alloc)
+}
+
 #[test]
-fn buckets_are_refused_and_handed_out(rt: HostRuntime) -> Result<(), Fail> {
-    buckets_are_handed_out_and_given_back::<process_local::Memory<PoolAllocator>>(&rt, rt.alloc())?;
-    buckets_are_handed_out_and_given_back::<file::Memory<PoolAllocator>>(&rt, rt.alloc())
+fn each_step_of_the_example(rt: HostRuntime) -> Result<(), Fail> {
+    each_step::<process_local::Memory<PoolAllocator>>(&rt, rt.alloc())?;
+    each_step::<file::Memory<PoolAllocator>>(&rt, rt.alloc())
 }
