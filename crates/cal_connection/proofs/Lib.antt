@@ -1,2 +1,5 @@
+pub mod Changed
 pub mod Closed
+pub mod Owed
+pub mod Removed
 pub mod Written
