@@ -148,7 +148,6 @@ impl<S: DynamicStorage<SharedManagementData>> ZeroCopyConnection for Connection<
 
     ghost checks_version = { S.checks_version };
 
-    #[tactic(auto, using(crate::proofs::Removed::keeps_handles))]
     fn remove_sender(
         reg: &mut Registry<SharedManagementData>,
         name: &FileName,
@@ -157,7 +156,6 @@ impl<S: DynamicStorage<SharedManagementData>> ZeroCopyConnection for Connection<
         remove_port(reg, name, config, SENDER_BIT)
     }
 
-    #[tactic(auto, using(crate::proofs::Removed::keeps_handles))]
     fn remove_receiver(
         reg: &mut Registry<SharedManagementData>,
         name: &FileName,

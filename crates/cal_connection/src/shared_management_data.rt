@@ -216,6 +216,7 @@ impl SharedManagementData {
         requires callable { MayRunOver F.FnMut callback (used_offsets self.now) }
         ensures called { LeadsTo F.FnMut callback (used_offsets self.now) result }
     {
+        prove!(self.settings.number_of_segments <= u8::MAX);
         call_on_channels(&self.channels, callback)
     }
 
