@@ -6,10 +6,10 @@ ghost use Rattle.cal_queue.specs.UsedChunks.{capacity_of};
 ghost use Rattle.cal_connection.specs.Channel.{after_acquire, segment_at, send_answer, after_send, receive_answer, after_receive, release_answer, after_release, reclaim_answer, after_reclaim, is_empty, is_full, is_used, with_word, new_channel};
 ghost use Rattle.cal_connection.specs.Settings.{completion_size, IsClamped};
 
+use crate::acquisition::empty_segments;
 use crate::errors::{
     ZeroCopyReceiveError, ZeroCopyReclaimError, ZeroCopyReleaseError, ZeroCopySendError,
 };
-use crate::acquisition::empty_segments;
 use crate::segment_details::{SegmentDetails, enter, take_back};
 use crate::settings::ConnectionSettings;
 use cal_alloc::PointerOffset;
