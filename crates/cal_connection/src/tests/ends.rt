@@ -52,20 +52,20 @@ pub(crate) fn connect<S: DynamicStorage<SharedManagementData>>(
 
 /// Whether an offset may be sent on a channel.
 fn may_send(
-    data: &SharedManagementData,
+    entry: &SharedManagementData,
     ptr: PointerOffset,
     sample_size: usize,
     channel: usize,
 ) -> bool
-    ensures sendable { result ≡ true → IsSendable data.now channel ptr sample_size }
+    ensures sendable { result ≡ true → IsSendable entry.now channel ptr sample_size }
 {
-    let settings = data.settings();
+    let settings = entry.settings();
     channel < settings.number_of_channels
         && sample_size > 0
         && ptr.offset() % sample_size == 0
         && ptr.segment_id().value() < settings.number_of_segments
         && ptr.offset() / sample_size < settings.number_of_samples
-        && !data.is_in_use(ptr, sample_size, channel)
+        && !entry.is_in_use(ptr, sample_size, channel)
 }
 
 /// Sends an offset in bytes of a segment on a channel.
