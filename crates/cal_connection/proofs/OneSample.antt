@@ -25,8 +25,8 @@ module _ (port : PortEntry) (sound : IsSoundPort port) (one : port.settings.numb
         ]
   ]
 
-  pub IsAcquirable-one : IsAcquirable port
-  IsAcquirable-one = record {
+  pub all_acquirable : IsAcquirable port
+  all_acquirable = record {
     below = λ channel segment index used. elim (cases_lt index 1) [
       | inl first ↦
           let zero : index ≡ 0 = omega arith in
