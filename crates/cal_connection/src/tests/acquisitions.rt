@@ -17,7 +17,6 @@ use std::test::Fail;
 type InProcess = process_local::Storage<SharedManagementData>;
 
 /// Whether each segment has one sample. Then all offsets are 0, and can be acquired.
-#[tactic(auto, using(crate::proofs::OneSample::all_acquirable))]
 fn has_one_sample(entry: &SharedManagementData) -> bool
     ensures acquirable { result ≡ true → IsAcquirable entry.now }
 {
