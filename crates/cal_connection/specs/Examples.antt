@@ -1,7 +1,7 @@
 -- Worked examples of the steps on one channel: closed values that the definitions compute.
 use Rattle.std.specs.Prelude.{ℕ, true, false, List, [], ◌∷◌}
 use Rattle.cal_alloc.specs.PointerOffset.{pointer_offset}
-use Rattle.cal_connection.specs.Channel.{ChannelEntry, new_channel, after_send, after_receive, after_release}
+use Rattle.cal_connection.specs.Channel.{ChannelEntry, new_channel, after_acquire, after_send, after_receive, after_release}
 use Rattle.cal_connection.specs.declared.settings.ConnectionSettings.{ConnectionSettings}
 
 -- one channel with a queue of one offset, two segments of two samples each, and one offset to be borrowed
@@ -44,3 +44,10 @@ after_one_release = after_release (after_receive 1 0 after_one_send) second
 -- a receiver returned an offset that nobody sent
 abbrev pub after_foreign_release : ChannelEntry
 after_foreign_release = after_release unused_channel foreign
+
+-- the first sample was sent, and then all samples were taken out of use
+abbrev pub after_first_send : ChannelEntry
+after_first_send = after_send true unused_channel first 8
+
+abbrev pub after_first_acquired : ChannelEntry
+after_first_acquired = after_acquire after_first_send

@@ -1,3 +1,4 @@
+pub mod Acquisition
 pub mod Backpressure
 pub mod BackpressureLemmas
 pub mod Channel
@@ -13,5 +14,7 @@ pub mod Settings
 pub mod ShapeLemmas
 pub mod Traffic
 pub mod TrafficLemmas
+pub mod Unmarked
+pub mod UnmarkedLemmas
 pub mod Words
 pub mod Examples

@@ -1,15 +1,18 @@
 -- What follows of an entry's soundness, and how the entry of a handle is read and written in a registry.
-use Rattle.std.specs.Prelude.{◌≡◌, ◌≢◌, ℕ, ◌<◌, ◌^◌, false, List, [], ◌∷◌, length, map, replicate, slice_index_or, slice_set}
-use Rattle.std.proofs.Common.{refl, sym, ap, ◌∙◌, subst, arith}
+use Rattle.std.specs.Prelude.{◌≡◌, ◌≢◌, ℕ, ◌<◌, ◌≤◌, ◌^◌, false, List, [], ◌∷◌, length, map, replicate, slice_index_or, slice_set}
+use Rattle.std.proofs.Common.{refl, sym, ap, ◌∙◌, subst, inl, inr, arith}
 use Rattle.std.proofs.Math.Seq.{map-set_same}
 use Rattle.std.proofs.Math.ListN.{get_or-map}
-use Rattle.std.proofs.lemmas.List.{get_or_default, get_or-replicate, get_or-set_other, length-map, length-replicate, same_lists}
+use Rattle.std.proofs.lemmas.Bool.{cases_lt}
+use Rattle.std.proofs.lemmas.List.{get_or_default, get_or_past, get_or-replicate, get_or-set_other, length-map, length-replicate, same_lists}
 use Rattle.cal_connection.specs.declared.segment_details.SegmentDetails.{SegmentDetails}
 use Rattle.cal_connection.specs.declared.settings.ConnectionSettings.{ConnectionSettings}
 use Rattle.cal_connection.specs.Closing.{closed_channel, with_closed_channels}
+use Rattle.cal_connection.specs.Acquisition.{after_acquiring}
 use Rattle.cal_connection.specs.Settings.{IsClamped, completion_size}
 use Rattle.cal_connection.specs.Words.{IsPortWord}
-use Rattle.cal_connection.specs.Channel.{new_channel, new_segment, ChannelEntry, Shape, shape, shape_of, samples_of, capacity_of, no_segment, segment_at}
+use Rattle.cal_connection.specs.Channel.{after_acquire, new_channel, new_segment, ChannelEntry, Shape, shape, shape_of, samples_of, capacity_of, no_segment, segment_at}
+use Rattle.cal_connection.specs.ShapeLemmas.{shape-after_acquire}
 use Rattle.cal_connection.specs.Port.{PortEntry, IsSoundPort, new_port, no_channel, channel_at, with_channel}
 
 module _ (port : PortEntry) (sound : IsSoundPort port) where
@@ -31,6 +34,16 @@ module _ (port : PortEntry) (sound : IsSoundPort port) where
       sym (length-map (channel_at port channel).segments samples_of)
       ∙ ap (λ (s : Shape). length s.samples) (shape-channel_at channel within)
       ∙ length-replicate port.settings.number_of_segments port.settings.number_of_samples
+
+  pub length-segments-most : port.settings.number_of_segments ≤ 256 → (channel : ℕ) →
+      length (channel_at port channel).segments ≤ 256
+  length-segments-most few channel = elim (cases_lt channel port.settings.number_of_channels) [
+    | inl within ↦ omega (arith, length-segments channel within)
+    | inr past ↦
+        let none : channel_at port channel ≡ no_channel =
+        get_or_past port.channels channel no_channel (omega (arith, length-channels)) in
+        subst (λ (c : ChannelEntry). length c.segments ≤ 256) (sym none) (omega arith)
+  ]
 
   pub samples-segment_at : (channel segment : ℕ) → channel < port.settings.number_of_channels →
       segment < port.settings.number_of_segments →
@@ -80,6 +93,21 @@ module _ (port : PortEntry) (sound : IsSoundPort port) where
       same : (channels : List ChannelEntry) → map shape (map closed_channel channels) ≡ map shape channels
       same [] = refl
       same (channel ∷ channels) = ap (λ shapes. shape channel ∷ shapes) (same channels)
+
+  -- and where no sample is in use any more
+  pub IsSoundPort-acquired : IsSoundPort (after_acquiring port)
+  IsSoundPort-acquired = record {
+    clamped = sound.clamped;
+    fits = sound.fits;
+    word = sound.word;
+    shapes = same port.channels ∙ sound.shapes;
+  }
+    where
+      same : (channels : List ChannelEntry) → map shape (map after_acquire channels) ≡ map shape channels
+      same [] = refl
+      same (channel ∷ channels) =
+          ap (λ s. s ∷ map shape (map after_acquire channels)) (shape-after_acquire channel)
+          ∙ ap (λ shapes. shape channel ∷ shapes) (same channels)
 
 -- ---- what is made
 

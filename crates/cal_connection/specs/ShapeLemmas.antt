@@ -2,7 +2,7 @@
 use Rattle.std.specs.Prelude.{◌≡◌, ℕ, ◌<◌, ◌/◌, Bool, true, false, not, ◌&&◌, List, [], ◌∷◌, length, map, replicate, Option, Some, None, slice_index_or, slice_set, if◌then◌else◌, refl}
 use Rattle.std.proofs.Common.{sym, ap, ◌∙◌}
 use Rattle.std.proofs.Math.Seq.{map-set_same}
-use Rattle.std.proofs.lemmas.List.{length-set}
+use Rattle.std.proofs.lemmas.List.{length-replicate, length-set}
 use Rattle.cal_alloc.specs.PointerOffset.{offset_of, segment_of}
 use Rattle.cal_connection.specs.declared.segment_details.SegmentDetails.{SegmentDetails}
 use Rattle.cal_connection.specs.Channel.{Queue, ChannelEntry, Shape, shape, samples_of, capacity_of, no_segment, segment_at, names_used_entry, with_entry, without_entry, after_return, with_used, without_used, is_refused, is_full, is_at_limit, after_send, after_receive, after_release, after_reclaim, after_acquire, emptied, after_pop, after_push, oldest, overflow_of, with_room, with_word}
@@ -104,3 +104,14 @@ pub shape-after_reclaim : (channel : ChannelEntry) → shape (after_reclaim chan
 shape-after_reclaim channel =
     ap (λ s. record { submission = channel.submission.capacity; completion = channel.completion.capacity; samples = s })
     (samples-after_return channel.segments (oldest channel.completion))
+
+pub shape-after_acquire : (channel : ChannelEntry) → shape (after_acquire channel) ≡ shape channel
+shape-after_acquire channel =
+    ap (λ s. record { submission = channel.submission.capacity; completion = channel.completion.capacity; samples = s })
+    (same channel.segments)
+  where
+    same : (segments : List SegmentDetails) → map samples_of (map emptied segments) ≡ map samples_of segments
+    same [] = refl
+    same (details ∷ rest) =
+        ap (λ n. n ∷ map samples_of (map emptied rest)) (length-replicate (capacity_of details.used) false)
+        ∙ ap (λ xs. samples_of details ∷ xs) (same rest)

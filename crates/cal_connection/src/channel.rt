@@ -3,9 +3,10 @@ ghost use Rattle.std.specs.Prelude.{◌≡◌, ◌<◌, ◌≤◌, ◌/◌, ◌^
 ghost use Rattle.cal_alloc.specs.PointerOffset.{offset_of, segment_of};
 ghost use Rattle.cal_queue.specs.FirstFrom.{IsFirstFrom};
 ghost use Rattle.cal_queue.specs.UsedChunks.{capacity_of};
-ghost use Rattle.cal_connection.specs.Channel.{segment_at, send_answer, after_send, receive_answer, after_receive, release_answer, after_release, reclaim_answer, after_reclaim, is_empty, is_full, is_used, with_word, new_channel};
+ghost use Rattle.cal_connection.specs.Channel.{after_acquire, segment_at, send_answer, after_send, receive_answer, after_receive, release_answer, after_release, reclaim_answer, after_reclaim, is_empty, is_full, is_used, with_word, new_channel};
 ghost use Rattle.cal_connection.specs.Settings.{completion_size, IsClamped};
 
+use crate::acquisition::empty_segments;
 use crate::errors::{
     ZeroCopyReceiveError, ZeroCopyReclaimError, ZeroCopyReleaseError, ZeroCopySendError,
 };
@@ -64,6 +65,20 @@ impl Channel {
             segments,
             word,
         })
+    }
+
+    /// The used entries by their segments' numbers.
+    pub(crate) fn segments(&self) -> &[SegmentDetails]
+        ensures value { result.now ≡ self.now.segments }
+    {
+        &self.segments
+    }
+
+    /// Takes all samples out of use.
+    pub(crate) fn empty_used(&mut self)
+        ensures emptied { self.new ≡ after_acquire self.old }
+    {
+        empty_segments(&mut self.segments);
     }
 
     /// The word.

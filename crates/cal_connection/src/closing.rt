@@ -5,6 +5,7 @@ ghost use Rattle.cal_names.specs.ConceptSettings.{settings_of};
 ghost use Rattle.cal_storage.specs.Contents.{Has};
 ghost use Rattle.cal_storage.specs.Holding.{KeepsOtherHandles, LeavesSharers};
 ghost use Rattle.cal_storage.specs.Refusals.{open_refusal};
+ghost use Rattle.cal_storage.specs.Soundness.{IsSound};
 ghost use Rattle.cal_connection.specs.Closing.{after_end, removal_plan, removal_answer, after_forced_removal};
 ghost use Rattle.cal_connection.specs.Configuration.{stored_type};
 ghost use Rattle.cal_connection.specs.Words.{IsPortBit};
@@ -53,6 +54,7 @@ pub(crate) fn remove_port<S: DynamicStorage<SharedManagementData>>(
     ensures removed { reg.new ≡ after_forced_removal (open_refusal S.checks_version reg.old
         (removal_plan name.now (settings_of config.now.parts (Some stored_type))))
         reg.old (settings_of config.now.parts (Some stored_type)) name.now bit }
+    ensures sound { IsSound reg.old }
 {
     let storage_config = config.storage_configuration();
     let builder = S::Builder::new(name)

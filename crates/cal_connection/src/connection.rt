@@ -1,6 +1,7 @@
 //! Connections, and the ends that are removed by force. Ported from `zero_copy_connection/mod.rs` and `common.rs` of
 //! iceoryx2-cal 0.9.3.
 ghost use Rattle.std.specs.Prelude.{◌≡◌, Bool, true, codes};
+ghost use Rattle.cal_storage.specs.Holding.{KeepsHandles};
 ghost use Rattle.cal_storage.specs.Refusals.{open_refusal};
 ghost use Rattle.cal_connection.specs.Closing.{removal_plan, removal_answer, after_forced_removal};
 ghost use Rattle.cal_connection.specs.Words.{sender_bit, receiver_bit};
@@ -36,7 +37,8 @@ pub trait ZeroCopyConnection: Debug + NamedConceptMgmt<Names = Registry<SharedMa
     ghost checks_version: { Bool };
 
     /// Removes the sender of this name by force: all channels are closed, and the sender leaves as one that closes
-    /// does. An entry that is still being made loses its name. This is for a sender that is gone without having closed.
+    /// does. An entry that is still being made loses its name. Every open handle keeps its entry, that of the
+    /// removed sender too. This is for a sender that is gone without having closed.
     fn remove_sender(
         reg: &mut Registry<SharedManagementData>,
         name: &FileName,
@@ -46,7 +48,8 @@ pub trait ZeroCopyConnection: Debug + NamedConceptMgmt<Names = Registry<SharedMa
             (removal_plan name.now (Self.Configuration.settings config.now))) }
         ensures removed { reg.new ≡ after_forced_removal (open_refusal checks_version reg.old
             (removal_plan name.now (Self.Configuration.settings config.now)))
-            reg.old (Self.Configuration.settings config.now) name.now sender_bit };
+            reg.old (Self.Configuration.settings config.now) name.now sender_bit }
+        ensures keeps { KeepsHandles reg.old reg.new };
 
     /// Removes the receiver of this name by force, as `remove_sender` does the sender.
     fn remove_receiver(
@@ -58,7 +61,8 @@ pub trait ZeroCopyConnection: Debug + NamedConceptMgmt<Names = Registry<SharedMa
             (removal_plan name.now (Self.Configuration.settings config.now))) }
         ensures removed { reg.new ≡ after_forced_removal (open_refusal checks_version reg.old
             (removal_plan name.now (Self.Configuration.settings config.now)))
-            reg.old (Self.Configuration.settings config.now) name.now receiver_bit };
+            reg.old (Self.Configuration.settings config.now) name.now receiver_bit }
+        ensures keeps { KeepsHandles reg.old reg.new };
 
     /// Whether a full queue can give its oldest offset back.
     fn does_support_safe_overflow() -> bool {

@@ -2,9 +2,10 @@
 //! computed.
 
 ghost use Rattle.std.specs.Prelude.{◌≡◌, true, false, [], ◌∷◌, Some, None, Ok, Err};
-ghost use Rattle.cal_connection.specs.Channel.{names_used_entry, send_answer, receive_answer, after_receive, release_answer, reclaim_answer, after_reclaim};
-ghost use Rattle.cal_connection.specs.Examples.{unused_channel, second, first, foreign, after_one_send, after_overflow, after_one_release, after_foreign_release};
-ghost use Rattle.cal_connection.specs.declared.errors.ZeroCopySendError.TheVariants.{ReceiveBufferFull};
+ghost use Rattle.cal_connection.specs.Acquisition.{used_in_segments};
+ghost use Rattle.cal_connection.specs.Channel.{after_send, names_used_entry, send_answer, receive_answer, after_receive, release_answer, reclaim_answer, after_reclaim};
+ghost use Rattle.cal_connection.specs.Examples.{unused_channel, second, first, foreign, after_one_send, after_overflow, after_one_release, after_foreign_release, after_first_send, after_first_acquired};
+ghost use Rattle.cal_connection.specs.declared.errors.ZeroCopySendError.TheVariants.{ReceiveBufferFull, ConnectionCorrupted};
 ghost use Rattle.cal_connection.specs.declared.errors.ZeroCopyReceiveError.TheVariants.{ReceiveWouldExceedMaxBorrowValue};
 ghost use Rattle.cal_connection.specs.declared.errors.ZeroCopyReclaimError.TheVariants.{ReceiverReturnedCorruptedPointerOffset};
 
@@ -46,4 +47,13 @@ pub fn a_released_offset_is_reclaimed()
 pub fn a_foreign_offset_is_told()
     ensures answer { reclaim_answer after_foreign_release ≡ Err ReceiverReturnedCorruptedPointerOffset }
     ensures gone { (after_reclaim after_foreign_release).completion.values ≡ [] }
+{}
+
+/// The sender acquires what it sent. The next send, into the full queue, is told that the oldest names no sample in
+/// use; what was sent stays queued.
+pub fn an_acquired_offset_overflows_as_corrupted()
+    ensures acquired { used_in_segments 0 after_first_send.segments ≡ first ∷ [] }
+    ensures none { used_in_segments 0 after_first_acquired.segments ≡ [] }
+    ensures answer { send_answer true after_first_acquired second 8 ≡ Err ConnectionCorrupted }
+    ensures queued { (after_send true after_first_acquired second 8).submission.values ≡ second ∷ [] }
 {}

@@ -1,13 +1,23 @@
 //! Laws of what calls leave on a channel. Each is a theorem about the definitions that the contracts of the calls cite,
 //! and its function does nothing.
-ghost use Rattle.std.specs.Prelude.{◌≡◌, ◌≢◌, ℕ, Bool, List};
+ghost use Rattle.std.specs.Prelude.{◌≡◌, ◌≢◌, ℕ, Bool, List, Option, Some, None};
 ghost use Rattle.cal_connection.specs.Channel.{ChannelEntry, new_channel};
 ghost use Rattle.cal_storage.specs.declared.handle.Handle.{Handle};
-ghost use Rattle.cal_storage.specs.Contents.{Contents, Has};
+ghost use Rattle.cal_storage.specs.Contents.{Contents, Has, nothing_registered};
 ghost use Rattle.cal_connection.specs.Port.{PortEntry, channel_at, with_channel, port_at, with_port, channel_of, with_channel_of};
 ghost use Rattle.cal_connection.specs.Settings.{IsClamped};
 ghost use Rattle.cal_connection.specs.Traffic.{ChannelCall, Side, Traffic, Shows, no_traffic, side_after_all, traffic_after_all, MayCallAll};
 ghost use Rattle.cal_connection.specs.declared.settings.ConnectionSettings.{ConnectionSettings};
+ghost use Rattle.cal_connection.specs.declared.errors.ZeroCopyCreationError.TheVariants.{IsBeingCleanedUp};
+ghost use Rattle.cal_connection.specs.Closing.{after_end, after_forced_removal};
+ghost use Rattle.cal_connection.specs.Creation.{found_refusal, after_connecting};
+ghost use Rattle.cal_connection.specs.Plan.{ConnectionPlan};
+ghost use Rattle.cal_connection.specs.Unmarked.{NamesAreUnmarked};
+ghost use Rattle.cal_connection.specs.Words.{IsPortBit};
+ghost use Rattle.cal_names.specs.ConceptSettings.{ConceptSettings};
+ghost use Rattle.cal_storage.specs.Refusals.{after_name_removal};
+ghost use Rattle.cal_storage.specs.Soundness.{IsSound};
+ghost use Rattle.cal_storage.specs.declared.dynamic_storage.errors.DynamicStorageOpenError.{DynamicStorageOpenError};
 
 /// A channel shows what went over it, over any calls: the queue holds what was sent and hasn't left it, as many are
 /// borrowed as were received and not released, and the completion queue holds what was released and not reclaimed.
@@ -40,4 +50,30 @@ pub fn a_written_entry_is_seen()
         port_at (with_port contents handle port) other ≡ port_at contents other }
     ensures kept { (contents : Contents PortEntry) (handle other : Handle) (port : PortEntry) → Has contents other →
         Has (with_port contents handle port) other }
+{}
+
+/// No path stands for an entry that is being cleaned up: so it is in a new registry, and each change that a call of
+/// this crate makes to a registry keeps it so. A port that is created, one that ends, one that is removed by force, a
+/// name that is removed, and an entry that is written with the port word that it had are all that these calls change.
+pub fn names_stay_unmarked()
+    ensures new { NamesAreUnmarked nothing_registered }
+    ensures created { (contents : Contents PortEntry) (plan : ConnectionPlan) (bit : ℕ) → IsPortBit bit →
+        NamesAreUnmarked contents → found_refusal contents plan bit ≡ None →
+        NamesAreUnmarked (after_connecting contents plan bit) }
+    ensures ended { (contents : Contents PortEntry) → IsSound contents → (handle : Handle) → Has contents handle →
+        (bit : ℕ) → NamesAreUnmarked contents → NamesAreUnmarked (after_end contents handle bit) }
+    ensures removed { (contents : Contents PortEntry) → IsSound contents → NamesAreUnmarked contents →
+        (refusal : Option DynamicStorageOpenError) (settings : ConceptSettings) (name : List ℕ) (bit : ℕ) →
+        NamesAreUnmarked (after_forced_removal refusal contents settings name bit) }
+    ensures name_removed { (contents : Contents PortEntry) → IsSound contents → NamesAreUnmarked contents →
+        (settings : ConceptSettings) (name : List ℕ) → NamesAreUnmarked (after_name_removal settings name contents) }
+    ensures written { (contents : Contents PortEntry) (handle : Handle) (port : PortEntry) →
+        port.word ≡ (port_at contents handle).word → NamesAreUnmarked contents →
+        NamesAreUnmarked (with_port contents handle port) }
+{}
+
+/// Where no path stands for an entry that is being cleaned up, no port is refused as if one did.
+pub fn an_unmarked_connection_is_joined()
+    ensures joined { (contents : Contents PortEntry) (plan : ConnectionPlan) (bit : ℕ) → NamesAreUnmarked contents →
+        found_refusal contents plan bit ≢ Some IsBeingCleanedUp }
 {}

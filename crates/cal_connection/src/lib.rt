@@ -2,6 +2,7 @@
 //! samples on channels, the receiver gives them back, and the sender reclaims them.
 #![tactic(auto)]
 
+mod acquisition;
 mod backpressure;
 mod blocking;
 mod builder;

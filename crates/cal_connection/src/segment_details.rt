@@ -3,7 +3,7 @@ ghost use Rattle.std.specs.Prelude.{◌≡◌, ◌<◌, ◌/◌, length, IfOk, i
 ghost use Rattle.std.specs.Borrow.{sem};
 ghost use Rattle.cal_alloc.specs.PointerOffset.{offset_of, segment_of};
 ghost use Rattle.cal_queue.specs.UsedChunks.{capacity_of, contains, none_used};
-ghost use Rattle.cal_connection.specs.Channel.{names_used, names_used_entry, with_used, with_entry, without_used, after_return, segment_at};
+ghost use Rattle.cal_connection.specs.Channel.{emptied, names_used, names_used_entry, with_used, with_entry, without_used, after_return, segment_at};
 
 use cal_alloc::PointerOffset;
 use cal_queue::used_chunk_list::UsedChunkList;
@@ -52,6 +52,13 @@ impl SegmentDetails {
             return false;
         }
         self.used.remove(index)
+    }
+
+    /// Takes all samples out of use; their size stays.
+    pub(crate) fn empty(&mut self)
+        ensures emptied { self.new ≡ emptied self.old }
+    {
+        self.used.remove_all(|_| {});
     }
 }
 

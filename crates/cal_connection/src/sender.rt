@@ -5,11 +5,13 @@ ghost use Rattle.cal_storage.specs.Contents.{Has};
 ghost use Rattle.cal_storage.specs.Holding.{KeepsHandles};
 ghost use Rattle.cal_storage.specs.RegistryLends.{LendsValue};
 ghost use Rattle.cal_connection.specs.contracts.shared_management_data.SharedManagementData.{the_row};
+ghost use Rattle.cal_queue.specs.Callback.{MayRunOver, RunsOver};
 ghost use Rattle.cal_queue.specs.FirstFrom.{IsFirstFrom};
+ghost use Rattle.cal_connection.specs.Acquisition.{IsAcquirable, used_offsets, after_acquiring};
 ghost use Rattle.cal_connection.specs.Backpressure.{obstacle, AnswersObstacle};
 ghost use Rattle.cal_connection.specs.Channel.{send_answer, after_send, reclaim_answer, after_reclaim, is_used};
 ghost use Rattle.cal_connection.specs.Words.{sender_bit};
-ghost use Rattle.cal_connection.specs.Port.{port_at, settings_at, channel_of, with_channel_of, is_in_use, IsWithin, IsSendable};
+ghost use Rattle.cal_connection.specs.Port.{port_at, with_port, settings_at, channel_of, with_channel_of, is_in_use, IsWithin, IsSendable};
 
 use crate::backpressure::{BackpressureToReceiverAction, Clock};
 use crate::blocking::face;
@@ -103,6 +105,24 @@ pub trait ZeroCopySender: ZeroCopyPortDetails {
         ensures answer { result ≡ reclaim_answer (channel_of reg.old (Self.handle self.old) channel_id) }
         ensures reclaimed { reg.new ≡ with_channel_of reg.old (Self.handle self.old) channel_id
             (after_reclaim (channel_of reg.old (Self.handle self.old) channel_id)) }
+        ensures keeps { KeepsHandles reg.old reg.new }
+        ensures port { self.new ≡ self.old };
+
+    /// Takes all samples out of use, and calls the callback once on the offset of each, by channel, then by segment,
+    /// then by index. The offset of a sample is its index times the size that the last send told of its segment on its
+    /// channel, and has to be below 2^56. What is queued and what was released stays in its queue. So this is for a
+    /// sender that is about to end: an offset that comes back afterwards names no sample in use.
+    fn acquire_used_offsets<F: FnMut(PointerOffset) + Drop>(
+        &mut self,
+        reg: &mut Registry<SharedManagementData>,
+        callback: F,
+    )
+        requires there { Has reg.old (Self.handle self.old) }
+        requires acquirable { IsAcquirable (port_at reg.old (Self.handle self.old)) }
+        requires callable { MayRunOver F.FnMut callback (used_offsets (port_at reg.old (Self.handle self.old))) }
+        ensures called { RunsOver F.FnMut callback (used_offsets (port_at reg.old (Self.handle self.old))) }
+        ensures acquired { reg.new ≡ with_port reg.old (Self.handle self.old)
+            (after_acquiring (port_at reg.old (Self.handle self.old))) }
         ensures keeps { KeepsHandles reg.old reg.new }
         ensures port { self.new ≡ self.old };
 }
@@ -239,5 +259,15 @@ impl<S: DynamicStorage<SharedManagementData>> ZeroCopySender for Sender<S> {
         channel_id: ChannelId,
     ) -> Result<Option<PointerOffset>, ZeroCopyReclaimError> {
         Self::management_data_mut(reg, self).reclaim(channel_id.value())
+    }
+
+    #[tactic(auto, using(crate::proofs::Written::keeps_handles))]
+    fn acquire_used_offsets<F: FnMut(PointerOffset) + Drop>(
+        &mut self,
+        reg: &mut Registry<SharedManagementData>,
+        callback: F,
+    ) {
+        self.management_data(reg).call_on_used(callback);
+        Self::management_data_mut(reg, self).empty_used();
     }
 }

@@ -3,6 +3,8 @@
 ghost use Rattle.std.specs.Prelude.{◌≡◌, ◌<◌, ◌≤◌, ◌^◌, Some, false, length, map, codes, IfOk, if◌then◌else◌};
 ghost use Rattle.cal_alloc.specs.PointerOffset.{offset_of, segment_of};
 ghost use Rattle.cal_queue.specs.FirstFrom.{IsFirstFrom};
+ghost use Rattle.cal_queue.specs.Callback.{LeadsTo, MayRunOver};
+ghost use Rattle.cal_connection.specs.Acquisition.{IsAcquirable, used_offsets, after_acquiring};
 ghost use Rattle.cal_connection.specs.Backpressure.{obstacle};
 ghost use Rattle.cal_connection.specs.Channel.{send_answer, after_send, receive_answer, after_receive, release_answer, after_release, reclaim_answer, after_reclaim, is_empty, is_full, is_used, with_word};
 ghost use Rattle.cal_connection.specs.Closing.{without_bit, with_closed_channels, closed_channel};
@@ -12,6 +14,7 @@ ghost use Rattle.cal_connection.specs.PortLemmas.{length-channels};
 ghost use Rattle.cal_connection.specs.Settings.{completion_size, IsClamped, incompatibility};
 ghost use Rattle.cal_connection.specs.Words.{IsPortWord, IsPortBit, has_bit, mark, is_connected, leaves_mark, after_leave};
 
+use crate::acquisition::{call_on_channels, empty_channels};
 use crate::backpressure::Obstacle;
 use crate::channel::Channel;
 use crate::errors::{
@@ -205,6 +208,23 @@ impl SharedManagementData {
         ensures sound { IsSoundPort self.old }
     {
         self.channels[channel].reclaim()
+    }
+
+    /// Calls a callback on the offset of each sample that is in use, and hands it back.
+    pub(crate) fn call_on_used<F: FnMut(PointerOffset)>(&self, callback: F) -> F
+        requires acquirable { IsAcquirable self.now }
+        requires callable { MayRunOver F.FnMut callback (used_offsets self.now) }
+        ensures called { LeadsTo F.FnMut callback (used_offsets self.now) result }
+    {
+        prove!(self.settings.number_of_segments <= u8::MAX);
+        call_on_channels(&self.channels, callback)
+    }
+
+    /// Takes all samples out of use.
+    pub(crate) fn empty_used(&mut self)
+        ensures emptied { self.new ≡ after_acquiring self.old }
+    {
+        empty_channels(&mut self.channels);
     }
 
     /// Whether no offset is queued on a channel.

@@ -1,4 +1,5 @@
 //! Tests of what no clause says: the worked examples over both kinds of storage, with ample memory, and printed texts.
+mod acquisitions;
 mod blocking_sends;
 mod creations;
 mod ends;

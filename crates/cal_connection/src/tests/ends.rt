@@ -1,6 +1,8 @@
 //! Calls of both ends of a connection that look first whether their conditions hold, for the tests.
-ghost use Rattle.std.specs.Prelude.{IfOk};
+ghost use Rattle.std.specs.Prelude.{◌≡◌, true, IfOk};
+ghost use Rattle.cal_storage.specs.Holding.{Holds};
 ghost use Rattle.cal_connection.specs.Ends.{AreOpen};
+ghost use Rattle.cal_connection.specs.Port.{IsSendable};
 
 use crate::{
     Builder, ChannelId, Receiver, Sender, SharedManagementData, ZeroCopyConnectionBuilder,
@@ -8,10 +10,31 @@ use crate::{
     ZeroCopyReleaseError, ZeroCopySendError, ZeroCopySender,
 };
 use cal_alloc::PointerOffset;
+use cal_names::{FileName, NamedConceptBuilder};
 use cal_storage::{DynamicStorage, Registry};
 use std::alloc::Global;
 use std::process::Abort;
 use std::test::Fail;
+
+/// The name of each connection.
+pub(crate) fn name() -> Result<FileName, Fail> {
+    Ok(FileName::new(b"connection").ok_or("a file name")?)
+}
+
+/// A builder of the connection.
+pub(crate) fn builder<S: DynamicStorage<SharedManagementData>>() -> Result<Builder<S>, Fail> {
+    Ok(Builder::new(&name()?))
+}
+
+/// The sender of a default connection.
+pub(crate) fn open_sender<S: DynamicStorage<SharedManagementData>>(
+    alloc: Global,
+    reg: &mut Registry<SharedManagementData>,
+) -> Result<Sender<S>, Fail>
+    ensures open { IfOk result (λ sender. Holds reg.new 1 sender.handle) }
+{
+    Ok(builder::<S>()?.create_sender(alloc, reg)?)
+}
 
 /// Both ends that two builders create, one after the other.
 pub(crate) fn connect<S: DynamicStorage<SharedManagementData>>(
@@ -27,6 +50,24 @@ pub(crate) fn connect<S: DynamicStorage<SharedManagementData>>(
     Ok((sender, receiver))
 }
 
+/// Whether an offset may be sent on a channel.
+fn may_send(
+    entry: &SharedManagementData,
+    ptr: PointerOffset,
+    sample_size: usize,
+    channel: usize,
+) -> bool
+    ensures sendable { result ≡ true → IsSendable entry.now channel ptr sample_size }
+{
+    let settings = entry.settings();
+    channel < settings.number_of_channels
+        && sample_size > 0
+        && ptr.offset() % sample_size == 0
+        && ptr.segment_id().value() < settings.number_of_segments
+        && ptr.offset() / sample_size < settings.number_of_samples
+        && !entry.is_in_use(ptr, sample_size, channel)
+}
+
 /// Sends an offset in bytes of a segment on a channel.
 pub(crate) fn send<S: DynamicStorage<SharedManagementData>>(
     rt: &impl Abort,
@@ -39,15 +80,9 @@ pub(crate) fn send<S: DynamicStorage<SharedManagementData>>(
     requires { AreOpen reg.old ends.old.0.handle ends.old.1.handle }
     ensures open { AreOpen reg.new ends.new.0.handle ends.new.1.handle }
 {
-    let settings = *ends.0.management_data(reg).settings();
-    let channel_id = ChannelId::new(channel);
-    assert!(rt; channel < settings.number_of_channels);
-    assert!(rt; sample_size > 0);
-    assert!(rt; ptr.offset() % sample_size == 0);
-    assert!(rt; ptr.segment_id().value() < settings.number_of_segments);
-    assert!(rt; ptr.offset() / sample_size < settings.number_of_samples);
-    assert!(rt; !ends.0.is_in_use(reg, ptr, sample_size, channel_id));
-    ends.0.try_send(reg, ptr, sample_size, channel_id)
+    assert!(rt; may_send(ends.0.management_data(reg), ptr, sample_size, channel));
+    ends.0
+        .try_send(reg, ptr, sample_size, ChannelId::new(channel))
 }
 
 /// Takes back what the receiver released on a channel.

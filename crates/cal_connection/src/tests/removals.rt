@@ -1,82 +1,114 @@
 //! Ports that are removed by force.
+ghost use Rattle.cal_storage.specs.Contents.{Has};
+
+use crate::tests::ends::{builder, connect, name, open_sender};
 use crate::{
-    Builder, ChannelId, Configuration, Connection, SharedManagementData, ZeroCopyConnection,
+    ChannelId, Configuration, Connection, Sender, SharedManagementData, ZeroCopyConnection,
     ZeroCopyConnectionBuilder, ZeroCopyCreationError, ZeroCopyPortDetails, ZeroCopyPortRemoveError,
 };
-use cal_names::{FileName, NamedConceptBuilder, NamedConceptConfiguration};
+use cal_names::NamedConceptConfiguration;
 use cal_storage::dynamic_storage::{file, process_local};
 use cal_storage::{DynamicStorage, Registry};
 use std::alloc::Global;
 use std::process::Abort;
 use std::test::Fail;
 
-/// The receiver is removed by force: the channels are closed and the sender is alone. Then the sender is, and the name
-/// is gone.
-fn both_ends_are_removed<S: DynamicStorage<SharedManagementData>>(
+type InFile = file::Storage<SharedManagementData>;
+
+type InProcess = process_local::Storage<SharedManagementData>;
+
+/// Whether channel 0 of a sender's connection is closed, and the receiver isn't there.
+fn is_alone<S: DynamicStorage<SharedManagementData>>(
+    rt: &impl Abort,
+    reg: &Registry<SharedManagementData>,
+    sender: &Sender<S>,
+) -> bool
+    requires { Has reg.now sender.now.handle }
+{
+    assert!(rt; sender.number_of_channels(reg) > 0);
+    sender.is_channel_closed(reg, ChannelId::new(0)) && !sender.is_connected(reg)
+}
+
+/// A receiver that is removed by force leaves the sender alone, with closed channels.
+fn the_sender_is_left<S: DynamicStorage<SharedManagementData>>(
     rt: &impl Abort,
     alloc: Global,
 ) -> Result<(), Fail> {
-    let name = FileName::new(b"connection").ok_or("a file name")?;
-    let config = Configuration::default();
     let mut reg = Registry::new(alloc);
-    let sender = Builder::<S>::new(&name).create_sender(alloc, &mut reg)?;
-    let _receiver = Builder::<S>::new(&name).create_receiver(alloc, &mut reg)?;
-    assert_eq!(rt;
-        Connection::<S>::remove_receiver(&mut reg, &name, &config),
-        Ok(())
-    );
-    assert!(rt; sender.number_of_channels(&reg) > 0);
-    assert!(rt; sender.is_channel_closed(&reg, ChannelId::new(0)));
-    assert!(rt; !sender.is_connected(&reg));
-    assert_eq!(rt;
-        Connection::<S>::remove_sender(&mut reg, &name, &config),
-        Ok(())
-    );
-    assert_eq!(rt; reg.len(), 0);
-    assert_eq!(rt;
-        Connection::<S>::remove_sender(&mut reg, &name, &config),
-        Err(ZeroCopyPortRemoveError::DoesNotExist)
-    );
+    let ends = connect::<S>(alloc, &mut reg, builder()?, builder()?)?;
+    let removed = Connection::<S>::remove_receiver(&mut reg, &name()?, &Configuration::default());
+    assert_eq!(rt; removed, Ok(()));
+    assert!(rt; is_alone(rt, &reg, &ends.0));
     Ok(())
 }
 
 #[test]
-fn ends_are_removed(rt: HostRuntime) -> Result<(), Fail> {
-    both_ends_are_removed::<process_local::Storage<SharedManagementData>>(&rt, rt.alloc())?;
-    both_ends_are_removed::<file::Storage<SharedManagementData>>(&rt, rt.alloc())
+fn a_removed_receiver_leaves_the_sender(rt: HostRuntime) -> Result<(), Fail> {
+    the_sender_is_left::<InProcess>(&rt, rt.alloc())?;
+    the_sender_is_left::<InFile>(&rt, rt.alloc())
+}
+
+/// A sender that is removed by force as the last port takes the name with it.
+fn the_name_is_gone<S: DynamicStorage<SharedManagementData>>(
+    rt: &impl Abort,
+    alloc: Global,
+) -> Result<(), Fail> {
+    let name = name()?;
+    let config = Configuration::default();
+    let mut reg = Registry::new(alloc);
+    let _sender = open_sender::<S>(alloc, &mut reg)?;
+    let removed = Connection::<S>::remove_sender(&mut reg, &name, &config);
+    assert_eq!(rt; removed, Ok(()));
+    assert_eq!(rt; reg.len(), 0);
+    let removed = Connection::<S>::remove_sender(&mut reg, &name, &config);
+    assert_eq!(rt; removed, Err(ZeroCopyPortRemoveError::DoesNotExist));
+    Ok(())
+}
+
+#[test]
+fn the_last_removed_port_takes_the_name(rt: HostRuntime) -> Result<(), Fail> {
+    the_name_is_gone::<InProcess>(&rt, rt.alloc())?;
+    the_name_is_gone::<InFile>(&rt, rt.alloc())
+}
+
+/// What a receiver's creation and its removal answer where the sender's entry has this version.
+fn at_version(
+    alloc: Global,
+    reg: &mut Registry<SharedManagementData>,
+    version: u64,
+) -> Result<
+    (
+        Option<ZeroCopyCreationError>,
+        Result<(), ZeroCopyPortRemoveError>,
+    ),
+    Fail,
+> {
+    let name = name()?;
+    let config = Configuration::<InFile>::default();
+    let _sender = open_sender::<InFile>(alloc, reg)?;
+    let _is_set = reg.set_version(&config.path_for(&name)?, version);
+    let refused = builder::<InFile>()?.create_receiver(alloc, reg).err();
+    let removed = Connection::<InFile>::remove_receiver(reg, &name, &config);
+    Ok((refused, removed))
 }
 
 #[test]
 fn an_entry_of_another_version_is_left(rt: HostRuntime) -> Result<(), Fail> {
-    let name = FileName::new(b"connection").ok_or("a file name")?;
-    let config = Configuration::<file::Storage<SharedManagementData>>::default();
-    let path = config.path_for(&name)?;
     let mut reg = Registry::new(rt.alloc());
-    let _sender = Builder::<file::Storage<SharedManagementData>>::new(&name).create_sender(
-        rt.alloc(),
-        &mut reg,
-    )?;
-    assert!(rt; reg.set_version(&path, 9002));
-    let refused = Builder::<file::Storage<SharedManagementData>>::new(&name).create_receiver(
-        rt.alloc(),
-        &mut reg,
-    );
-    assert_eq!(rt; refused.err(), Some(ZeroCopyCreationError::VersionMismatch));
-    let removed = Connection::<file::Storage<SharedManagementData>>::remove_receiver(
-        &mut reg, &name, &config,
-    );
+    let (refused, removed) = at_version(rt.alloc(), &mut reg, 9002)?;
+    assert_eq!(rt; refused, Some(ZeroCopyCreationError::VersionMismatch));
     assert_eq!(rt; removed, Err(ZeroCopyPortRemoveError::VersionMismatch));
-    assert!(rt; reg.set_version(&path, 0));
-    let refused = Builder::<file::Storage<SharedManagementData>>::new(&name).create_receiver(
-        rt.alloc(),
-        &mut reg,
-    );
+    assert_eq!(rt; reg.len(), 1);
+    Ok(())
+}
+
+#[test]
+fn an_entry_that_is_being_made_loses_its_name(rt: HostRuntime) -> Result<(), Fail> {
+    let mut reg = Registry::new(rt.alloc());
+    let (refused, removed) = at_version(rt.alloc(), &mut reg, 0)?;
     assert_eq!(rt;
-        refused.err(),
+        refused,
         Some(ZeroCopyCreationError::InitializationNotYetFinalized)
-    );
-    let removed = Connection::<file::Storage<SharedManagementData>>::remove_receiver(
-        &mut reg, &name, &config,
     );
     assert_eq!(rt; removed, Ok(()));
     assert_eq!(rt; reg.len(), 0);
