@@ -1,9 +1,13 @@
 pub mod Buckets
 pub mod Changing
+pub mod Chunks
 pub mod Discarding
+pub mod Histories
 pub mod Lists
 pub mod Loaning
 pub mod Lookup
+pub mod Moves
+pub mod Moving
 pub mod Names
 pub mod Opening
 pub mod Reading

@@ -12,6 +12,7 @@ pub mod PartsOf
 pub mod Rules
 pub mod Transit
 pub mod Run
+pub mod Soundness
 pub mod Examples
 pub mod OrderExamples
 pub mod Serve
