@@ -2,10 +2,12 @@ pub mod Buckets
 pub mod Changing
 pub mod Chunks
 pub mod Discarding
+pub mod Following
 pub mod Histories
 pub mod Lists
 pub mod Loaning
 pub mod Lookup
+pub mod Moved
 pub mod Moves
 pub mod Moving
 pub mod Names

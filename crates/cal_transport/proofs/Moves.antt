@@ -49,6 +49,7 @@ pub data LeavesAlone (l : Ledger) (k : ℕ) (asked : Command) (reply : Reply) (c
 pub record Sends (l : Ledger) (k : ℕ) (asked : Command) (reply : Reply) (old new : ChannelHistory) : Type 0 where
   pub name : ℕ
   pub asked_is : asked ≡ command.Send k name
+  pub none : cause l asked ≡ None
   pub replied : reply ≡ Sent None
   pub chunk : IsSendable l name
   pub new_here : weight old name ≡ 0
@@ -62,6 +63,7 @@ pub record Overflows (l : Ledger) (k : ℕ) (asked : Command) (reply : Reply) (o
   pub rest : List ℕ
   pub slot : Slot
   pub asked_is : asked ≡ command.Send k name
+  pub none : cause l asked ≡ None
   pub replied : reply ≡ Sent (Some slot)
   pub told : slot.chunk ≡ oldest
   pub allowed : l.settings.overflow ≡ true

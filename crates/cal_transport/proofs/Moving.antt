@@ -160,6 +160,7 @@ sends_here l place reply k c name sound here none owes =
           move = BySend (record {
             name = name;
             asked_is = refl;
+            none = none;
             replied = replied None back;
             chunk = may.chunk;
             new_here = may.new_here;
@@ -183,6 +184,7 @@ sends_here l place reply k c name sound here none owes =
             rest = rest;
             slot = slot.slot;
             asked_is = refl;
+            none = none;
             replied = replied (Some oldest) back ∙ ap Sent slot.told;
             told = slot.same_name;
             allowed = overflow_on l.settings.overflow (is_buffer_full l c) may.room is;
@@ -350,11 +352,11 @@ loaned_histories l name (Transit channel slot) = refl
 -- ---- every step
 
 -- what is to be shown of a command on a channel
-abbrev MovesBy : Ledger → ℕ → Reply → ℕ → ChannelHistory → Command → Type 0
+abbrev pub MovesBy : Ledger → ℕ → Reply → ℕ → ChannelHistory → Command → Type 0
 MovesBy l place reply k c asked = cause l asked ≡ None → Owes l place asked reply →
     MovedTo l (after_command l place asked reply) k asked reply c
 
-done_moves : (l : Ledger) (place : ℕ) (reply : Reply) (k : ℕ) (c : ChannelHistory) → IsSoundLedger l place →
+pub done_moves : (l : Ledger) (place : ℕ) (reply : Reply) (k : ℕ) (c : ChannelHistory) → IsSoundLedger l place →
     slice_get l.histories k ≡ Some c → (asked : Command) → MovesBy l place reply k c asked
 done_moves l place reply k c sound here (command.Loan size alignment) none owes =
     unwritten l (after_loan (grown_ledger l size alignment) place reply) k (command.Loan size alignment) reply c
