@@ -3,7 +3,9 @@ pub mod Changing
 pub mod Chunks
 pub mod Discarding
 pub mod Following
+pub mod Growing
 pub mod Histories
+pub mod Lending
 pub mod Lists
 pub mod Loaning
 pub mod Lookup
@@ -18,6 +20,7 @@ pub mod Reclaiming
 pub mod Releasing
 pub mod Running
 pub mod Sending
+pub mod Sound
 pub mod Steps
 pub mod Transits
 pub mod Update

@@ -31,7 +31,7 @@ pub record MovedTo (l after : Ledger) (k : ℕ) (asked : Command) (reply : Reply
 
 -- ---- what stands behind a command without a cause
 
-first_no : (a : Bool) (x : Refusal) (rest : Option Refusal) → cond a (Some x) rest ≡ None → (a ≡ false) × (rest ≡ None)
+pub first_no : (a : Bool) (x : Refusal) (rest : Option Refusal) → cond a (Some x) rest ≡ None → (a ≡ false) × (rest ≡ None)
 first_no false x rest e = (refl, e)
 first_no true x rest e = absurd (none-some x (sym e))
 
