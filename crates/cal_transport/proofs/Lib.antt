@@ -2,6 +2,7 @@ pub mod Buckets
 pub mod Changing
 pub mod Chunks
 pub mod Discarding
+pub mod EachChannel
 pub mod Following
 pub mod Growing
 pub mod Histories
@@ -22,6 +23,7 @@ pub mod Running
 pub mod Sending
 pub mod Sound
 pub mod Steps
+pub mod Telling
 pub mod Transits
 pub mod Update
 pub mod Writes

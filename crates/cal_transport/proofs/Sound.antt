@@ -275,7 +275,7 @@ sound_steps l place (asked ∷ commands) (reply ∷ replies) sound steps =
 
 -- ---- the first ledger
 
-new_sound : (s : Settings) → IsSoundHistory s new_history
+pub new_sound : (s : Settings) → IsSoundHistory s new_history
 new_sound s = record {
   orderly = record {
     left_sent = omega arith;

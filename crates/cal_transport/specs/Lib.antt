@@ -13,6 +13,7 @@ pub mod Rules
 pub mod Transit
 pub mod Run
 pub mod Soundness
+pub mod Told
 pub mod Examples
 pub mod OrderExamples
 pub mod Serve
