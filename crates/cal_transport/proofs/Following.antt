@@ -50,6 +50,7 @@ pub record Keeps (before after : Chunk) : Type 0 where
   pub bytes : length after.bytes ≡ length before.bytes
   pub loaned : after.loaned ≡ true → before.loaned ≡ true
   pub sent : before.sent ≡ true → after.sent ≡ true
+  pub fixed : before.sent ≡ true → after.bytes ≡ before.bytes
 
 pub record KeptFrom (old : List Chunk) (i : ℕ) (after : Chunk) : Type 0 where
   pub before : Chunk

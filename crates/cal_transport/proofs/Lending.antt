@@ -126,7 +126,7 @@ module _ (l : Ledger) (place : ℕ) (bucket : ℕ) (sound : IsSoundLedger l plac
   }
 
 -- what a free place is
-free_parts : (a b c : Bool) → (a && b && c) ≡ true → (b ≡ true) × (c ≡ true)
+pub free_parts : (a b c : Bool) → (a && b && c) ≡ true → (b ≡ true) × (c ≡ true)
 free_parts true true true e = (refl, refl)
 free_parts true true false e = absurd (true≢false (sym e))
 free_parts true false c e = absurd (true≢false (sym e))

@@ -6,6 +6,7 @@ pub mod EachChannel
 pub mod Following
 pub mod Growing
 pub mod Histories
+pub mod Keeping
 pub mod Lending
 pub mod Lists
 pub mod Loaning

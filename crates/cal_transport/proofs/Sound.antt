@@ -29,7 +29,7 @@ use Rattle.cal_transport.proofs.Lending.{sound_loan}
 
 -- ---- chunks that keep their places
 
-stays : (c : Chunk) → Keeps c c
+pub stays : (c : Chunk) → Keeps c c
 stays c = record {
   name = refl;
   segment = refl;
@@ -37,16 +37,17 @@ stays c = record {
   bytes = refl;
   loaned = λ e. e;
   sent = λ e. e;
+  fixed = λ e. refl;
 }
 
-same_chunks : (chunks : List Chunk) → KeepChunks chunks chunks
+pub same_chunks : (chunks : List Chunk) → KeepChunks chunks chunks
 same_chunks chunks = record {
   from = λ i after stands. record { before = after; stands = stands; keeps = stays after };
   to = λ i before stands. record { after = before; stands = stands; keeps = stays before };
 }
 
 -- one name's chunk is changed, and keeps its name and bucket
-abbrev changed_if : (Chunk → Chunk) → ℕ → Chunk → Chunk
+abbrev pub changed_if : (Chunk → Chunk) → ℕ → Chunk → Chunk
 changed_if change name chunk = cond (nat_eq chunk.name name) (change chunk) chunk
 
 keeps_changed : (change : Chunk → Chunk) (name : ℕ) (c : Chunk) → (c.name ≡ name → Keeps c (change c)) →
@@ -56,7 +57,7 @@ keeps_changed change name c here = elim (eqb_tells c.name name) [
   | inr apart ↦ subst (λ b. Keeps c (cond b (change c) c)) (sym apart.0) (stays c)
 ]
 
-changed_chunks : (chunks : List Chunk) (name : ℕ) (change : Chunk → Chunk) →
+pub changed_chunks : (chunks : List Chunk) (name : ℕ) (change : Chunk → Chunk) →
     ((i : ℕ) (c : Chunk) → slice_get chunks i ≡ Some c → c.name ≡ name → Keeps c (change c)) →
     KeepChunks chunks (with_changed_chunk change name chunks)
 changed_chunks chunks name change keeps = record {
@@ -86,14 +87,18 @@ long_as_before : (bytes : List ℕ) (at : ℕ) (others : List ℕ) → at + leng
     length (with_bytes bytes at others) ≡ length bytes
 long_as_before bytes at others within = simp (length-append, length-take, length-drop) (omega arith)
 
--- the bytes that are written lie in the chunk
-written_within : (l : Ledger) (place name at : ℕ) (bytes : List ℕ) (i : ℕ) (c : Chunk) → IsSoundLedger l place →
+-- the chunk wasn't sent, and the bytes that are written lie in it
+pub record IsWritable (c : Chunk) (at : ℕ) (bytes : List ℕ) : Type 0 where
+  pub unsent : c.sent ≡ false
+  pub within : at + length bytes ≤ length c.bytes
+
+pub may_write : (l : Ledger) (place name at : ℕ) (bytes : List ℕ) (i : ℕ) (c : Chunk) → IsSoundLedger l place →
     write_cause l (loaned_chunk l name) at (length bytes) ≡ None → slice_get l.chunks i ≡ Some c → c.name ≡ name →
-    at + length bytes ≤ length c.bytes
-written_within l place name at bytes i c sound none stands named = go (loaned_chunk l name) refl none
+    IsWritable c at bytes
+may_write l place name at bytes i c sound none stands named = go (loaned_chunk l name) refl none
   where
     go : (o : Option Chunk) → loaned_chunk l name ≡ o → write_cause l o at (length bytes) ≡ None →
-        at + length bytes ≤ length c.bytes
+        IsWritable c at bytes
     go None is q = absurd (none-some refusal.NotLoaned (sym q))
     go (Some found) is q =
         let s = loaned_stands l name found is in
@@ -106,20 +111,21 @@ written_within l place name at bytes i c sound none stands named = go (loaned_ch
         let fits = ltb-false (layout_at l found.segment).size (at + length bytes) inside.0 in
         let size = ap (λ x. (layout_at l x.segment).size) same in
         let long = (sound.within i c stands).bytes in
-        omega arith
+        record { unsent = ap (λ x. x.sent) (sym same) ∙ unsent.0; within = omega arith }
 
-keeps_written : (c : Chunk) (at : ℕ) (bytes : List ℕ) → at + length bytes ≤ length c.bytes →
+pub keeps_written : (c : Chunk) (at : ℕ) (bytes : List ℕ) → IsWritable c at bytes →
     Keeps c (record c { bytes = with_bytes c.bytes at bytes })
-keeps_written c at bytes within = record {
+keeps_written c at bytes may = record {
   name = refl;
   segment = refl;
   bucket = refl;
-  bytes = long_as_before c.bytes at bytes within;
+  bytes = long_as_before c.bytes at bytes may.within;
   loaned = λ e. e;
   sent = λ e. e;
+  fixed = λ e. absurd (true≢false (sym e ∙ may.unsent));
 }
 
-keeps_sent : (c : Chunk) → Keeps c (record c { sent = true })
+pub keeps_sent : (c : Chunk) → Keeps c (record c { sent = true })
 keeps_sent c = record {
   name = refl;
   segment = refl;
@@ -127,9 +133,10 @@ keeps_sent c = record {
   bytes = refl;
   loaned = λ e. e;
   sent = λ e. refl;
+  fixed = λ e. refl;
 }
 
-keeps_discarded : (c : Chunk) → Keeps c (record c { loaned = false })
+pub keeps_discarded : (c : Chunk) → Keeps c (record c { loaned = false })
 keeps_discarded c = record {
   name = refl;
   segment = refl;
@@ -137,9 +144,10 @@ keeps_discarded c = record {
   bytes = refl;
   loaned = λ e. absurd (true≢false (sym e));
   sent = λ e. e;
+  fixed = λ e. refl;
 }
 
-abbrev marked_sent : Chunk → Chunk
+abbrev pub marked_sent : Chunk → Chunk
 marked_sent c = record c { sent = true }
 
 same_send : (channel k name other : ℕ) → command.Send channel name ≡ command.Send k other → name ≡ other
@@ -201,7 +209,7 @@ done_sound l place reply sound (command.Loan size alignment) none owes =
 done_sound l place reply sound (command.Write name at bytes) none owes =
     kept_sound l place (command.Write name at bytes) reply sound none owes refl refl
     (changed_chunks l.chunks name (λ c. record c { bytes = with_bytes c.bytes at bytes })
-    (λ i c stands named. keeps_written c at bytes (written_within l place name at bytes i c sound none stands named)))
+    (λ i c stands named. keeps_written c at bytes (may_write l place name at bytes i c sound none stands named)))
     refl (λ k other sent. absurd (let e = sent.asked_is in cc))
 done_sound l place reply sound (command.Send channel name) none owes =
     let history = history_on l channel in
@@ -313,7 +321,13 @@ one_layout first (suc i) buckets sizes stands = absurd (none-some buckets stands
 
 pub sound_first : (s : Settings) → create_cause s ≡ None → IsSoundLedger (first_ledger s) 1
 sound_first s none = record {
-  room = record { buffer = omega arith; borrow = omega arith };
+  room = record {
+    buffer = omega arith;
+    borrow = omega arith;
+    samples = omega arith;
+    segments = omega arith;
+    channels = omega arith;
+  };
   segments = record {
     some = omega arith;
     few = omega arith;

@@ -14,6 +14,7 @@ pub mod Transit
 pub mod Run
 pub mod Soundness
 pub mod Told
+pub mod ChunkLaws
 pub mod Examples
 pub mod OrderExamples
 pub mod Serve

@@ -73,10 +73,13 @@ pub record IsSentChunk (l : Ledger) (name : ℕ) : Type 0 where
 
 -- ---- the ledger
 
--- the settings leave room for a chunk on a channel
+-- the settings have room for a chunk on a channel
 pub record HasRoom (s : Settings) : Type 0 where
   pub buffer : 1 ≤ s.buffer
   pub borrow : 1 ≤ s.borrow
+  pub samples : 1 ≤ s.samples
+  pub segments : 1 ≤ s.segments
+  pub channels : 1 ≤ s.channels
 
 pub record HasSoundSegments (l : Ledger) : Type 0 where
   pub some : 1 ≤ length l.segments
