@@ -59,7 +59,7 @@ inside l command.Count k none on = absurd (none-some k on)
 
 -- ---- each channel
 
-step_settings : (l : Ledger) (place : ℕ) (asked : Command) (reply : Reply) →
+pub step_settings : (l : Ledger) (place : ℕ) (asked : Command) (reply : Reply) →
     (after_step l place asked reply).settings ≡ l.settings
 step_settings l place asked reply = steps_settings l place (asked ∷ []) (reply ∷ [])
 

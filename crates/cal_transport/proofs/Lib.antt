@@ -1,4 +1,5 @@
 pub mod Buckets
+pub mod Capacity
 pub mod Changing
 pub mod Chunks
 pub mod Discarding

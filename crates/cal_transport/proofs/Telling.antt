@@ -144,7 +144,7 @@ steps_tell l place (asked ∷ commands) (reply ∷ replies) k sound steps =
     ∙ follows_on (history_on l k) (told_by k asked reply) (told_history k commands replies)
 
 -- a new transport's channels have no history
-first_history : (s : Settings) (k : ℕ) → history_on (first_ledger s) k ≡ new_history
+pub first_history : (s : Settings) (k : ℕ) → history_on (first_ledger s) k ≡ new_history
 first_history s k = elim (cases_lt k (clamped_settings s).channels) [
   | inl within ↦ get_or-replicate (clamped_settings s).channels k new_history new_history within
   | inr past ↦ get_or_past (replicate (clamped_settings s).channels new_history) k new_history

@@ -15,6 +15,7 @@ pub mod Run
 pub mod Soundness
 pub mod Told
 pub mod ChunkLaws
+pub mod Capacity
 pub mod Examples
 pub mod OrderExamples
 pub mod Serve

@@ -11,11 +11,12 @@ ghost use Rattle.cal_transport.specs.declared.reply.Slot.{Slot};
 ghost use Rattle.cal_transport.specs.Settings.{clamped_settings, create_cause};
 ghost use Rattle.cal_transport.specs.Ledger.{Ledger, first_ledger, history_on, chunk_named};
 ghost use Rattle.cal_transport.specs.Step.{IsStep, after_step, bytes_of_chunk};
-ghost use Rattle.cal_transport.specs.Run.{AreSteps, after_steps};
+ghost use Rattle.cal_transport.specs.Run.{AreSteps, IsRun, after_steps};
 ghost use Rattle.cal_transport.specs.Parts.{IsOrderly};
 ghost use Rattle.cal_transport.specs.Soundness.{IsSoundLedger, IsInOrder, IsWithinLimits};
 ghost use Rattle.cal_transport.specs.Told.{told_history};
 ghost use Rattle.cal_transport.specs.ChunkLaws.{HasNoLiveChunk, IsReadAfterSend};
+ghost use Rattle.cal_transport.specs.Capacity.{HasCapacity};
 
 /// The ledger of a new transport is sound, and each step keeps it so. So is the ledger after any commands.
 pub fn the_ledger_stays_sound()
@@ -61,4 +62,14 @@ pub fn a_loan_takes_no_live_bucket()
 pub fn a_read_shows_what_was_sent()
     ensures shown { (l : Ledger) (place name at long : ℕ) (bytes : List ℕ) → IsSoundLedger l place →
         IsReadAfterSend l place name at long bytes → bytes ≡ bytes_of_chunk (chunk_named l name) at long }
+{}
+
+/// Where an empty reclaim stands between any two accepted sends on a channel that come before a release there, that
+/// release isn't refused for a full completion queue: of any commands and settings, with overflow or without.
+pub fn a_completion_queue_has_room()
+    ensures steps { (settings : Settings) (commands : List Command) (replies : List Reply) →
+        create_cause settings ≡ None → AreSteps (first_ledger settings) 1 commands replies →
+        HasCapacity commands replies }
+    ensures run { (settings : Settings) (commands : List Command) (replies : List Reply) →
+        create_cause settings ≡ None → IsRun settings commands replies → HasCapacity commands replies }
 {}
