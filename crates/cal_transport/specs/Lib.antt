@@ -12,6 +12,10 @@ pub mod PartsOf
 pub mod Rules
 pub mod Transit
 pub mod Run
+pub mod Soundness
+pub mod Told
+pub mod ChunkLaws
+pub mod Capacity
 pub mod Examples
 pub mod OrderExamples
 pub mod Serve

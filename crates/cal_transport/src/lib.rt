@@ -5,6 +5,7 @@ mod bytes;
 mod chunk_record;
 mod command;
 pub mod examples;
+pub mod laws;
 mod memory;
 mod replies;
 mod reply;
