@@ -1,6 +1,7 @@
 -- The offsets of the samples that are in use, as a sender that takes all of them back is told them: by channel, then by
 -- segment, then by index, each rising.
-use Rattle.std.specs.Prelude.{◌≡◌, ℕ, ◌+◌, ◌*◌, ◌^◌, ◌<◌, true, List, [], ◌∷◌, ◌++◌, map}
+use Rattle.std.specs.Prelude.{◌≡◌, ℕ, ◌+◌, ◌*◌, ◌<◌, true, List, [], ◌∷◌, ◌++◌, map}
+use Rattle.cal_alloc.specs.Limits.{max_memory_size}
 use Rattle.cal_alloc.specs.PointerOffset.{pointer_offset}
 use Rattle.cal_queue.specs.UsedChunks.{contains, members, members_from}
 use Rattle.cal_connection.specs.declared.segment_details.SegmentDetails.{SegmentDetails}
@@ -35,17 +36,17 @@ used_offsets port = used_on_channels port.channels
 
 -- ---- what can be told
 
--- Each sample that is in use begins below 2^56 bytes, by its segment's stored sample size.
+-- Each sample that is in use begins below the limit of memory, by its segment's stored sample size.
 pub record FitsSegment (details : SegmentDetails) : Type 0 where
-  pub below : (index : ℕ) → contains details.used index ≡ true → index * details.sample_size < 2 ^ 56
+  pub below : (index : ℕ) → contains details.used index ≡ true → index * details.sample_size < max_memory_size
 
 pub record FitsSegments (segments : List SegmentDetails) : Type 0 where
   pub below : (segment index : ℕ) → is_used segments segment index ≡ true →
-      index * (segment_at segments segment).sample_size < 2 ^ 56
+      index * (segment_at segments segment).sample_size < max_memory_size
 
 pub record IsAcquirable (port : PortEntry) : Type 0 where
   pub below : (channel segment index : ℕ) → is_used (channel_at port channel).segments segment index ≡ true →
-      index * (segment_at (channel_at port channel).segments segment).sample_size < 2 ^ 56
+      index * (segment_at (channel_at port channel).segments segment).sample_size < max_memory_size
 
 -- ---- what is left
 
