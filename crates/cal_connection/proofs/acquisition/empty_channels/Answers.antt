@@ -6,6 +6,6 @@ use Rattle.cal_connection.proofs.acquisition.empty_channels.Goals as goal
 
 pub returns : goal.returns
 returns c = record {
-  emptied = map-from_IsChangedBelow after_acquire no_channel c.args.channels.now.items c.loop-index.channels.items c.loop-index.index
-      (omega arith) c.loop-index.invariant.so_far;
+  emptied = map-from_IsChangedBelow after_acquire no_channel c.args.channels.now.items c.loop-index.channels.items
+      c.loop-index.index (omega arith) c.loop-index.invariant.so_far;
 }
