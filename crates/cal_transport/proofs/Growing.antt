@@ -61,7 +61,7 @@ record MayGrow (segment : CurrentSegment) (size alignment : ℕ) : Type 0 where
   aligned : nat_lt max_memory_alignment (next_segment segment size alignment).alignment ≡ false
 
 -- a static memory without a cause serves
-static_serves : (segment : CurrentSegment) (size alignment : ℕ) → static_cause segment size alignment ≡ None →
+pub static_serves : (segment : CurrentSegment) (size alignment : ℕ) → static_cause segment size alignment ≡ None →
     serves segment size alignment ≡ true
 static_serves segment size alignment none =
     let a = first_no (nat_lt segment.layout.alignment alignment) refusal.ExceedsMaxSupportedAlignment

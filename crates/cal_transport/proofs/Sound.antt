@@ -301,7 +301,7 @@ all_new zero k c stands = absurd (none-some c stands)
 all_new (suc n) zero c stands = sym (same_Some new_history c stands)
 all_new (suc n) (suc k) c stands = all_new n k c stands
 
-first_sizes : (s : Settings) → create_cause s ≡ None → HasSizes (first_layout s)
+pub first_sizes : (s : Settings) → create_cause s ≡ None → HasSizes (first_layout s)
 first_sizes s none =
     let m = can_make s none in
     let aligned = m.aligned in let size = m.size in

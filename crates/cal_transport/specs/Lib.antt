@@ -16,6 +16,7 @@ pub mod Soundness
 pub mod Told
 pub mod ChunkLaws
 pub mod Capacity
+pub mod FillList
 pub mod Examples
 pub mod OrderExamples
 pub mod Serve
