@@ -25,6 +25,7 @@ pub mod Reading
 pub mod Receiving
 pub mod Reclaiming
 pub mod Releasing
+pub mod RoundLists
 pub mod Running
 pub mod Sending
 pub mod Sound
