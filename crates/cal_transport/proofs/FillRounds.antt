@@ -62,6 +62,7 @@ free_left s first chunks opened h fewer = elim (cases_Bool (has_free_bucket l 0)
   where
     l : Ledger
     l = filled s first chunks opened h
+
     taken : has_free_bucket l 0 ≡ false → (k : ℕ) → k < first.count →
         list_any (λ c. nat_eq c.bucket k && true) chunks ≡ true
     taken none k below =
@@ -114,10 +115,13 @@ all_in_transit s first chunks opened n h =
   where
     history : ChannelHistory
     history = counted n n n
+
     l : Ledger
     l = filled s first chunks opened history
+
     test : Chunk → Bool
     test c = nat_eq c.segment 0 && is_in_transit history c.name
+
     passes : (i : ℕ) (c : Chunk) → slice_get chunks i ≡ Some c → (nat_lt c.bucket first.count && test c) ≡ true
     passes i c stands =
         let within = slice_get_within chunks i c stands in let long = h.count in
@@ -157,7 +161,6 @@ lent_chunks first m bucket chunks h within = record {
 
 module _ (s : Settings) (first : SegmentLayout) (buffer borrow : ℕ) (f : FillSettings s first buffer borrow)
     (some_buffer : 1 ≤ buffer) (some_borrow : 1 ≤ borrow) (last : ℕ) where
-
   abbrev whole_count : ℕ
   whole_count = buffer + borrow + 1
 
@@ -186,10 +189,13 @@ module _ (s : Settings) (first : SegmentLayout) (buffer borrow : ℕ) (f : FillS
     where
       l : Ledger
       l = filled s first chunks opened (counted 0 0 0)
+
       fewer : length chunks < first.count
       fewer = let long = h.count in let many = f.buckets in omega arith
+
       static_none : static_cause (current_segment l) 1 1 ≡ None
       static_none = loan_none chunks opened (counted 0 0 0) fewer
+
       none : cause l (command.Loan 1 1) ≡ None
       none = ap (λ b. cond (not b) (Some refusal.BadLayout) (cond (is_static s.strategy)
           (static_cause (current_segment l) 1 1) (cond (serves (current_segment l) 1 1) None
@@ -198,10 +204,12 @@ module _ (s : Settings) (first : SegmentLayout) (buffer borrow : ℕ) (f : FillS
           (cond (serves (current_segment l) 1 1) None
           (growth_cause (current_segment l) (next_segment (current_segment l) 1 1))) f.static
           ∙ static_none
+
       same : grown_ledger l 1 1 ≡ l
       same = cond-true (serves (current_segment l) 1 1) l
           (record l { segments = l.segments ++ next_segment (current_segment l) 1 1 ∷ [] })
           (static_serves (current_segment l) 1 1 static_none)
+
       lent : (reply : Reply) → IsLoan l place reply →
           IsServed (command.Loan 1 1) reply × Ends last (after_loan (grown_ledger l 1 1) place reply) (place + 1) commands
       lent (Loaned slot) is =
@@ -209,8 +217,7 @@ module _ (s : Settings) (first : SegmentLayout) (buffer borrow : ℕ) (f : FillS
           let within = ltb-true bucket first.count (free_parts (nat_eq (slot.place % first.size) 0)
           (nat_lt bucket first.count) (is_free l 0 bucket) is.2).0 in
           let more = subst (λ p. AreFillChunks first (suc m) (chunks ++ new_chunk p 0 bucket first.size ∷ [])) (sym at)
-          (lent_chunks first m bucket chunks h within) in
-          (
+          (lent_chunks first m bucket chunks h within) in (
             record { accepted = λ why refused. absurd (cc); nothing_back = λ asked. absurd (cc) },
             subst (λ g. Ends last (after_loan g place (Loaned slot)) (place + 1) commands) (sym same)
                 (next (chunks ++ new_chunk place 0 bucket first.size ∷ []) more),

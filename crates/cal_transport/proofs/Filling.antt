@@ -41,9 +41,11 @@ pub goes_on : (last : ℕ) (l : Ledger) (place : ℕ) (asked : Command) (command
     Ends last l place (asked ∷ commands)
 goes_on last l place asked commands none go [] run = absurd run
 goes_on last l place asked commands none go (reply ∷ replies) run =
-    let next = go reply (subst (λ o. IsStepBy o l place asked reply) none run.0) in
-    (next.0, next.1 replies
-    (subst (λ o. AreStepsAndTransit (after_step_by o l place asked reply) (place + 1) commands replies) none run.1))
+    let next = go reply (subst (λ o. IsStepBy o l place asked reply) none run.0) in (
+      next.0,
+      next.1 replies
+          (subst (λ o. AreStepsAndTransit (after_step_by o l place asked reply) (place + 1) commands replies) none run.1),
+    )
 
 -- ---- the ledger along the list
 
@@ -93,9 +95,11 @@ marked_chunks first m name chunks h = record {
     from : (i : ℕ) (c : Chunk) → slice_get (with_changed_chunk marked_sent name chunks) i ≡ Some c →
         KeptFrom chunks i c
     from i c stands = (changed_chunks chunks name marked_sent (λ j x there named. keeps_sent x)).from i c stands
+
     mark : (x : Chunk) (b : Bool) → (cond b (marked_sent x) x).loaned ≡ x.loaned
     mark x true = refl
     mark x false = refl
+
     loaned_still : (i : ℕ) (c : Chunk) → slice_get (with_changed_chunk marked_sent name chunks) i ≡ Some c →
         c.loaned ≡ true
     loaned_still i c stands =
@@ -106,7 +110,6 @@ marked_chunks first m name chunks h = record {
         ap (λ x. x.loaned) (sym is) ∙ mark k.before (nat_eq k.before.name name) ∙ h.loaned i k.before k.stands
 
 module _ (s : Settings) (first : SegmentLayout) (buffer borrow : ℕ) (f : FillSettings s first buffer borrow) where
-
   abbrev all_chunks : ℕ
   all_chunks = buffer + borrow + 1
 
@@ -184,7 +187,7 @@ module _ (s : Settings) (first : SegmentLayout) (buffer borrow : ℕ) (f : FillS
           nothing_back = λ asked. absurd (cc);
         },
         subst (λ c. Ends last (filled s first more opened c) (place + 1) commands) (sym then)
-        (next more (marked_chunks first all_chunks (1 + n) chunks h)),
+            (next more (marked_chunks first all_chunks (1 + n) chunks h)),
       ))
 
   -- ---- a receive
@@ -212,7 +215,7 @@ module _ (s : Settings) (first : SegmentLayout) (buffer borrow : ℕ) (f : FillS
           nothing_back = λ asked. absurd (cc);
         },
         subst (λ c. Ends last (filled s first chunks (after_command l place (command.Receive 0) reply).opened_last c)
-        (place + 1) commands) (sym then) (next (after_command l place (command.Receive 0) reply).opened_last),
+            (place + 1) commands) (sym then) (next (after_command l place (command.Receive 0) reply).opened_last),
       ))
 
   -- ---- a release

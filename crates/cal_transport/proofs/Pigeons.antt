@@ -25,12 +25,16 @@ one_more test n (c ∷ chunks) = go (nat_lt c.bucket (suc n)) (nat_lt c.bucket n
   where
     a : List Chunk
     a = filter (λ x. nat_lt x.bucket (suc n) && test x) chunks
+
     b : List Chunk
     b = filter (λ x. nat_lt x.bucket n && test x) chunks
+
     d : List Chunk
     d = filter (λ x. nat_eq x.bucket n && test x) chunks
+
     three : (k m : ℕ) → (nat_lt k (suc m) ≡ (nat_lt k m || nat_eq k m)) × ((nat_lt k m && nat_eq k m) ≡ false)
     three k m = (grind (arith, nat_tests), grind (arith, nat_tests))
+
     go : (p q r t : Bool) → length a ≡ length b + length d → (p ≡ (q || r)) × ((q && r) ≡ false) →
         length (cond (p && t) (c ∷ a) a) ≡ length (cond (q && t) (c ∷ b) b) + length (cond (r && t) (c ∷ d) d)
     go true true true t e w = absurd (true≢false w.1)

@@ -64,41 +64,30 @@ fn push_rounds(
     Ok(())
 }
 
-/// Appends a round of one name. After an error a part of it is appended.
-fn push_round(commands: &mut Vec<Command>, round: Round, name: usize) -> Result<(), AllocError>
-    ensures round { OnOk result (commands.new.items ≡ commands.old.items ++ round_of round name) }
+/// Appends the round of a chunk's name. After an error a part of it is appended.
+fn push_round(commands: &mut Vec<Command>, round: Round, chunk: usize) -> Result<(), AllocError>
+    ensures round { OnOk result (commands.new.items ≡ commands.old.items ++ round_of round chunk) }
 {
+    let channel = 0;
     match round {
         Round::Loan => commands.push(Command::Loan {
             size: 1,
             alignment: 1,
         })?,
         Round::SendAndReceive => {
-            commands.push(Command::Send {
-                channel: 0,
-                chunk: name,
-            })?;
-            commands.push(Command::Receive { channel: 0 })?;
-            commands.push(Command::Reclaim { channel: 0 })?;
+            commands.push(Command::Send { channel, chunk })?;
+            commands.push(Command::Receive { channel })?;
+            commands.push(Command::Reclaim { channel })?;
         }
         Round::SendAndLeave => {
-            commands.push(Command::Send {
-                channel: 0,
-                chunk: name,
-            })?;
-            commands.push(Command::Reclaim { channel: 0 })?;
+            commands.push(Command::Send { channel, chunk })?;
+            commands.push(Command::Reclaim { channel })?;
         }
         Round::ReleaseAndReceive => {
-            commands.push(Command::Release {
-                channel: 0,
-                chunk: name,
-            })?;
-            commands.push(Command::Receive { channel: 0 })?;
+            commands.push(Command::Release { channel, chunk })?;
+            commands.push(Command::Receive { channel })?;
         }
-        Round::Release => commands.push(Command::Release {
-            channel: 0,
-            chunk: name,
-        })?,
+        Round::Release => commands.push(Command::Release { channel, chunk })?,
     }
     Ok(())
 }
@@ -119,3 +108,6 @@ fn push_exchange(commands: &mut Vec<Command>, last: usize) -> Result<(), AllocEr
     })?;
     Ok(())
 }
+
+#[cfg(test)]
+mod tests;

@@ -76,8 +76,8 @@ pub fn a_completion_queue_has_room()
 {}
 
 /// No smaller completion queue serves: the commands of the fill list are served, each reclaim with none, over memory of
-/// at least as many buckets as chunks, and then buffer plus borrow limit plus one chunks are in transit. All of these
-/// were released, and none was reclaimed.
+/// at least as many buckets as chunks, and then buffer plus borrow limit plus one chunks are in transit. Each was
+/// released by then, and no reclaim gave one back.
 pub fn a_completion_queue_fills_up()
     ensures served { (settings : Settings) (buffer borrow : ℕ) (replies : List Reply) →
         AreFilled settings buffer borrow → IsRun settings (fill_list buffer borrow) replies →
