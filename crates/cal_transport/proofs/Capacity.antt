@@ -1,29 +1,27 @@
 -- A channel on which the sender keeps up never has a full completion queue.
-use Rattle.std.proofs.Common.{ℕ, zero, suc, ◌+◌, ◌-◌, ◌<◌, ◌≤◌, ◌≡◌, ◌⊎◌, inl, inr, Bool, true, false, cond, not, nat_le, nat_lt, List, [], ◌∷◌, length, take, Option, Some, None, refl, sym, ap, ◌∙◌, subst, arith, length-append}
+use Rattle.std.proofs.Common.{ℕ, zero, suc, ◌+◌, ◌<◌, ◌≤◌, ◌≡◌, ◌⊎◌, inl, inr, Bool, true, false, cond, not, nat_le, List, [], ◌∷◌, length, take, Option, Some, None, refl, ap, ◌∙◌, subst, arith, length-append}
 use Rattle.std.specs.List.{slice_get}
-use Rattle.std.proofs.lemmas.Bool.{leb-true, ltb-true, not-false}
+use Rattle.std.proofs.lemmas.Bool.{leb-true, not-false}
 use Rattle.std.proofs.lemmas.List.{append-nil}
 use Rattle.std.proofs.lemmas.Option.{same_Some, none-some, slice_get_within}
 use Rattle.cal_transport.specs.declared.settings.Settings.{Settings}
 use Rattle.cal_transport.specs.declared.command.Command.{Command}
 use Rattle.cal_transport.specs.declared.command.Command.TheVariants as command
 use Rattle.cal_transport.specs.declared.reply.Reply.{Reply}
-use Rattle.cal_transport.specs.declared.reply.Reply.TheVariants.{Sent, Released, Reclaimed, Refused}
-use Rattle.cal_transport.specs.declared.reply.Slot.{Slot}
+use Rattle.cal_transport.specs.declared.reply.Reply.TheVariants.{Sent, Reclaimed, Refused}
 use Rattle.cal_transport.specs.declared.reply.Refusal.{Refusal}
 use Rattle.cal_transport.specs.declared.reply.Refusal.TheVariants as refusal
-use Rattle.cal_transport.specs.Settings.{clamped_settings, create_cause, completion_size}
-use Rattle.cal_transport.specs.Ledger.{Ledger, ChannelHistory, received_names, queued_names, completed_names, is_borrowed, borrow_count, history_on, first_ledger}
+use Rattle.cal_transport.specs.Settings.{create_cause, completion_size}
+use Rattle.cal_transport.specs.Ledger.{Ledger, ChannelHistory, queued_names, completed_names, is_borrowed, borrow_count, history_on, first_ledger}
 use Rattle.cal_transport.specs.Cause.{cause, is_channel_outside}
 use Rattle.cal_transport.specs.Step.{IsStep, IsStepBy, after_step, history_after_send, history_after_receive, history_after_release, history_after_reclaim}
-use Rattle.cal_transport.specs.Run.{AreSteps, AreStepsAndTransit, IsRun, transit_list}
+use Rattle.cal_transport.specs.Run.{AreSteps, AreStepsAndTransit, IsRun}
 use Rattle.cal_transport.specs.Parts.{IsOrderly}
 use Rattle.cal_transport.specs.Soundness.{IsSoundHistory, IsSoundLedger}
 use Rattle.cal_transport.specs.Capacity.{IsAnswered, IsAcceptedSend, IsEmptyReclaim, IsReclaimedBetween, KeepsUp, HasCapacity}
 use Rattle.cal_transport.proofs.Names.{queued-sent_on, queued-received_from, borrow_count-received_from, completed-released_on, borrow_count-released_on, fewer_released, completed-reclaimed_from}
 use Rattle.cal_transport.proofs.Histories.{history_after_overflow, overflow_then_send, queued-overflowed, received-overflowed, orderly_overflowed}
-use Rattle.cal_transport.proofs.Moves.{channel_of, LeavesAlone, Refuses, Elsewhere, ReceivesNone, ReclaimsNone, Move, Stays, BySend, ByOverflow, ByReceive, ByRelease, ByReclaim}
-use Rattle.cal_transport.proofs.Moving.{first_no}
+use Rattle.cal_transport.proofs.Moves.{channel_of, Refuses, Elsewhere, ReceivesNone, ReclaimsNone, Move, Stays, BySend, ByOverflow, ByReceive, ByRelease, ByReclaim}
 use Rattle.cal_transport.proofs.EachChannel.{each_moves, each_sound, step_settings}
 use Rattle.cal_transport.proofs.Sound.{sound_first, sound_step}
 use Rattle.cal_transport.proofs.Telling.{first_history}
@@ -125,8 +123,10 @@ too_many l place k name step h = go (cause l (command.Release k name)) refl step
     full : Option Refusal
     full = cond (nat_le (completion_size l.settings) (length (completed_names (history_on l k))))
         (Some refusal.RetrieveBufferFull) None
+
     borrowed_then : Option Refusal
     borrowed_then = cond (not (is_borrowed (history_on l k) name)) (Some refusal.NotBorrowed) full
+
     by_tests : (a b c : Bool) → is_channel_outside l k ≡ a → not (is_borrowed (history_on l k) name) ≡ b →
         nat_le (completion_size l.settings) (length (completed_names (history_on l k))) ≡ c →
         cond a (Some refusal.OutsideConnection)
@@ -140,6 +140,7 @@ too_many l place k name step h = go (cause l (command.Release k name)) refl step
     by_tests false false false a b c e = absurd (none-some refusal.RetrieveBufferFull e)
     by_tests false true c a b d e = absurd (let q = same_Some refusal.NotBorrowed refusal.RetrieveBufferFull e in cc)
     by_tests true b c a d f e = absurd (let q = same_Some refusal.OutsideConnection refusal.RetrieveBufferFull e in cc)
+
     go : (o : Option Refusal) → cause l (command.Release k name) ≡ o →
         IsStepBy o l place (command.Release k name) (Refused refusal.RetrieveBufferFull) →
         l.settings.buffer + l.settings.borrow + 2 ≤ on_way (history_on l k)
@@ -200,7 +201,6 @@ module _ (k : ℕ) (asked : Command) (reply : Reply) (commands : List Command) (
 module _ (l : Ledger) (place : ℕ) (k : ℕ) (asked : Command) (reply : Reply) (commands : List Command)
     (replies : List Reply) (end : ℕ) (sound : IsSoundLedger l place) (step : IsStep l place asked reply)
     (f : IsFollowed l k (asked ∷ commands) (reply ∷ replies) (suc end)) where
-
   abbrev then_ledger : Ledger
   then_ledger = after_step l place asked reply
 
@@ -221,6 +221,7 @@ module _ (l : Ledger) (place : ℕ) (k : ℕ) (asked : Command) (reply : Reply) 
       fewer : on_way (history_on l k) ≤ l.settings.buffer + l.settings.borrow →
           on_way (history_on then_ledger k) ≤ then_ledger.settings.buffer + then_ledger.settings.borrow
       fewer few = let limit = limit_stays in omega arith
+
       at_place : (last p : ℕ) → p < suc last → IsEmptyReclaim k (asked ∷ commands) (reply ∷ replies) p →
           (on_way (history_on then_ledger k) ≤ then_ledger.settings.buffer + then_ledger.settings.borrow) ⊎
           ((q : ℕ) × (q < last) × IsEmptyReclaim k commands replies q)
@@ -230,6 +231,7 @@ module _ (l : Ledger) (place : ℕ) (k : ℕ) (asked : Command) (reply : Reply) 
           inl (fewer (few_left l.settings (history_on l k) (each_sound l place k sound)
           (emptied l k asked reply (history_on l k) (history_on then_ledger k) move a r)))
       at_place last (suc p) below empty = inr (p, omega arith, reclaim_earlier k asked reply commands replies p empty)
+
       room : (last : ℕ) → (on_way (history_on l k) ≤ l.settings.buffer + l.settings.borrow) ⊎
           ((p : ℕ) × (p < suc last) × IsEmptyReclaim k (asked ∷ commands) (reply ∷ replies) p) →
           (on_way (history_on then_ledger k) ≤ then_ledger.settings.buffer + then_ledger.settings.borrow) ⊎
@@ -253,11 +255,13 @@ module _ (l : Ledger) (place : ℕ) (k : ℕ) (asked : Command) (reply : Reply) 
         back = None;
         answered = record { asked_there = ap Some added.asked_is; replied_there = ap Some added.replied };
       }
+
       few : (on_way (history_on l k) ≤ l.settings.buffer + l.settings.borrow) ⊎
           ((p : ℕ) × (p < 0) × IsEmptyReclaim k (asked ∷ commands) (reply ∷ replies) p) →
           on_way (history_on then_ledger k) ≤ then_ledger.settings.buffer + then_ledger.settings.borrow + 1
       few (inl room) = let limit = limit_stays in let more = added.more in omega arith
       few (inr made) = let below = made.1 in absurd (omega arith)
+
       later : (last : ℕ) → IsReclaimedBetween k (asked ∷ commands) (reply ∷ replies) 0 (suc last) →
           (on_way (history_on then_ledger k) ≤ then_ledger.settings.buffer + then_ledger.settings.borrow) ⊎
           ((q : ℕ) × (q < last) × IsEmptyReclaim k commands replies q)

@@ -1,12 +1,12 @@
 -- Chunks by their names, in a list whose names rise.
-use Rattle.std.proofs.Common.{ℕ, ◌<◌, ◌≤◌, ◌≡◌, ◌≢◌, inl, inr, Bool, true, false, cond, nat_eq, List, [], ◌∷◌, Option, Some, None, option_map, refl, sym, ap, ◌∙◌, subst, arith}
+use Rattle.std.proofs.Common.{ℕ, ◌≡◌, ◌≢◌, inl, inr, Bool, true, false, cond, nat_eq, List, Option, Some, None, option_map, refl, sym, ap, ◌∙◌, subst, arith}
 use Rattle.std.specs.List.{slice_get, find}
 use Rattle.std.proofs.lemmas.Option.{same_Some, none-some}
 use Rattle.std.proofs.lemmas.Bool.{cases_lt}
 use Rattle.cal_transport.specs.declared.reply.Slot.{Slot}
 use Rattle.cal_transport.specs.Ledger.{Ledger, Chunk, chunk_named, if_loaned, loaned_chunk}
 use Rattle.cal_transport.specs.Step.{slot_of, slot_named}
-use Rattle.cal_transport.specs.Soundness.{AreNamed, IsSentChunk, IsSoundLedger}
+use Rattle.cal_transport.specs.Soundness.{AreNamed, IsSentChunk}
 use Rattle.cal_transport.proofs.Lists.{same_or_apart}
 use Rattle.cal_transport.proofs.Steps.{find_stands, find_first}
 
@@ -48,6 +48,7 @@ loaned_stands l name chunk e = go (chunk_named l name) refl e
         (found.loaned ≡ true) × (found ≡ chunk)
     marked found true is q = (is, same_Some found chunk q)
     marked found false is q = absurd (none-some chunk q)
+
     go : (o : Option Chunk) → chunk_named l name ≡ o → if_loaned o ≡ Some chunk → IsLoaned l name chunk
     go None is q = absurd (none-some chunk q)
     go (Some found) is q =

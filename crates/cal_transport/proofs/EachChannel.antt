@@ -1,6 +1,5 @@
 -- Each channel of a number, also one that the connection doesn't have, is moved by a step, and its history is sound.
-use Rattle.std.proofs.Common.{ℕ, ◌+◌, ◌<◌, ◌≤◌, ◌≡◌, ◌≢◌, inl, inr, Bool, false, cond, not, ◌||◌, ◌&&◌, nat_le, List, [], ◌∷◌, length, get_or, Option, Some, None, refl, sym, ap, ◌∙◌, subst, arith}
-use Rattle.std.specs.List.{slice_get}
+use Rattle.std.proofs.Common.{ℕ, ◌≤◌, ◌≡◌, inl, inr, false, cond, not, ◌||◌, ◌&&◌, nat_le, [], ◌∷◌, length, Option, Some, None, refl, sym, ap, ◌∙◌, subst, arith}
 use Rattle.std.proofs.lemmas.Bool.{cases_lt, or_parts, leb-false}
 use Rattle.std.proofs.lemmas.List.{get_or_past}
 use Rattle.std.proofs.lemmas.Option.{same_Some, none-some, slice_get-get_or, get_or_from_slice_get}
@@ -10,10 +9,9 @@ use Rattle.cal_transport.specs.declared.reply.Reply.{Reply}
 use Rattle.cal_transport.specs.declared.reply.Refusal.{Refusal}
 use Rattle.cal_transport.specs.declared.reply.Refusal.TheVariants as refusal
 use Rattle.cal_transport.specs.Settings.{completion_size}
-use Rattle.cal_transport.specs.Ledger.{Ledger, Chunk, ChannelHistory, new_history, history_on, loaned_chunk, is_in_transit, is_borrowed, borrow_count, completed_names}
+use Rattle.cal_transport.specs.Ledger.{Ledger, Chunk, new_history, history_on, loaned_chunk, is_in_transit, is_borrowed, borrow_count, completed_names}
 use Rattle.cal_transport.specs.Cause.{cause, send_cause, is_channel_outside, is_bucket_outside, is_buffer_full}
-use Rattle.cal_transport.specs.Step.{IsStep, IsStepBy, after_step, after_step_by}
-use Rattle.cal_transport.specs.Run.{after_steps}
+use Rattle.cal_transport.specs.Step.{IsStep, IsStepBy, after_step}
 use Rattle.cal_transport.specs.Soundness.{IsSoundHistory, IsSoundLedger}
 use Rattle.cal_transport.proofs.Running.{steps_settings}
 use Rattle.cal_transport.proofs.Moves.{channel_of, LeavesAlone, Refuses, Elsewhere, Move, Stays}
@@ -71,12 +69,14 @@ outside_moves l place asked reply k sound step past = Stays (go (cause l asked) 
   where
     before : history_on l k ≡ new_history
     before = get_or_past l.histories k new_history past
+
     after : history_on (after_step l place asked reply) k ≡ new_history
     after =
         let now = sound_step l place asked reply sound step in
         let there = now.channels in let here = sound.channels in
         let same = ap (λ s. s.channels) (step_settings l place asked reply) in
         get_or_past (after_step l place asked reply).histories k new_history (omega arith)
+
     go : (o : Option Refusal) → cause l asked ≡ o → IsStepBy o l place asked reply →
         LeavesAlone l k asked reply (history_on l k)
     go None none owes = Elsewhere none (λ on. (

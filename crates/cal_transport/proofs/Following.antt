@@ -1,19 +1,16 @@
 -- A ledger whose chunks keep their places and names, and whose channels move, stays sound.
-use Rattle.std.proofs.Common.{ℕ, zero, suc, ◌+◌, ◌<◌, ◌≤◌, ◌≡◌, ◌⊎◌, inl, inr, Bool, true, false, ◌||◌, nat_lt, List, [], ◌∷◌, length, get_or, Some, None, refl, sym, ap, ◌∙◌, subst, arith}
+use Rattle.std.proofs.Common.{ℕ, zero, suc, ◌+◌, ◌<◌, ◌≡◌, ◌⊎◌, inl, inr, Bool, true, List, [], ◌∷◌, length, get_or, Some, refl, sym, ap, ◌∙◌, subst, arith}
 use Rattle.std.specs.List.{slice_get, list_any}
 use Rattle.std.proofs.lemmas.Option.{same_Some, none-some, slice_get_within, slice_get-get_or}
 use Rattle.std.proofs.lemmas.Bool.{false≢true, or_cases, or_left, or_right, ltb-true, lt-ltb}
 use Rattle.cal_alloc.specs.Growth.{SegmentLayout}
 use Rattle.cal_transport.specs.declared.command.Command.{Command}
-use Rattle.cal_transport.specs.declared.command.Command.TheVariants as command
 use Rattle.cal_transport.specs.declared.reply.Reply.{Reply}
 use Rattle.cal_transport.specs.Ledger.{Ledger, Chunk, ChannelHistory, new_history, layout_at, is_live, is_in_transit}
-use Rattle.cal_transport.specs.Cause.{cause}
 use Rattle.cal_transport.specs.Parts.{weight}
-use Rattle.cal_transport.specs.Soundness.{HasRoom, HasSizes, HasSoundSegments, LiesWithin, ShareBucket, AreNamed, IsSoundHistory, IsSentChunk, IsSoundLedger}
+use Rattle.cal_transport.specs.Soundness.{HasRoom, HasSoundSegments, LiesWithin, ShareBucket, AreNamed, IsSoundHistory, IsSentChunk, IsSoundLedger}
 use Rattle.cal_transport.proofs.Names.{is_in_transit-weight}
 use Rattle.cal_transport.proofs.Chunks.{same_place}
-use Rattle.cal_transport.proofs.Moves.{IsSendable}
 use Rattle.cal_transport.proofs.Moving.{MovedTo}
 use Rattle.cal_transport.proofs.Moved.{move_sound, WasSent, weighed_before}
 
@@ -159,6 +156,7 @@ lived l l' place asked reply i before after sound f stands keeps alive =
         (any_from (λ channel. is_in_transit channel before.name) l.histories k c here
         (is_in_transit-weight c before.name
         ∙ lt-ltb 0 (weight c before.name) (subst (λ n. 0 < weight c n) keeps.name some)))
+
     just : (k : ℕ) → WasSent l k asked after.name → is_live l before ≡ true
     just k sent =
         let s = sent.chunk in
@@ -167,6 +165,7 @@ lived l l' place asked reply i before after sound f stands keeps alive =
         let same = same_Some s.chunk before (sym s.stands ∙ ap (slice_get l.chunks) at ∙ stands) in
         or_left before.loaned (list_any (λ channel. is_in_transit channel before.name) l.histories)
         (ap (λ x. x.loaned) (sym same) ∙ s.loaned)
+
     in_transit : Passes (λ channel. is_in_transit channel after.name) l'.histories → is_live l before ≡ true
     in_transit p = elim (on_its_way l l' place asked reply p.index p.element after.name sound f p.stands
         (ltb-true 0 (weight p.element after.name) (sym (is_in_transit-weight p.element after.name) ∙ p.passes))) [

@@ -1,11 +1,10 @@
 -- The segment that a loan makes has sizes that fit, and a ledger that grew by it stays sound.
-use Rattle.std.proofs.Common.{ℕ, zero, suc, ◌+◌, ◌-◌, ◌*◌, ◌%◌, ◌<◌, ◌≤◌, ◌≡◌, ◌≢◌, inl, inr, Bool, true, false, cond, not, ◌&&◌, ◌||◌, max, nat_eq, nat_le, nat_lt, List, [], ◌∷◌, ◌++◌, length, get_or, Option, Some, None, refl, sym, ap, ◌∙◌, subst, arith, length-append}
+use Rattle.std.proofs.Common.{ℕ, zero, suc, ◌-◌, ◌*◌, ◌%◌, ◌<◌, ◌≤◌, ◌≡◌, ◌≢◌, inl, inr, Bool, true, false, cond, not, ◌&&◌, max, nat_eq, nat_le, nat_lt, List, [], ◌∷◌, ◌++◌, length, get_or, Option, Some, None, refl, sym, ap, ◌∙◌, subst, arith, length-append}
 use Rattle.std.specs.Int.{is_power_of_two}
 use Rattle.std.specs.List.{slice_get}
-use Rattle.std.proofs.lemmas.Bool.{true≢false, or_parts, and_parts, leb-true, leb-false, ltb-false, le-leb, lt-leb, not-false, cond-true, cond-false, cases_lt, eqb-false}
-use Rattle.std.proofs.lemmas.Bool.Decides.{nat_tests}
+use Rattle.std.proofs.lemmas.Bool.{true≢false, or_parts, and_parts, leb-true, leb-false, ltb-false, le-leb, not-false, cases_lt, eqb-false}
 use Rattle.std.proofs.lemmas.List.{get_or_append_left}
-use Rattle.std.proofs.lemmas.Option.{none-some, slice_get-get_or}
+use Rattle.std.proofs.lemmas.Option.{slice_get-get_or}
 use Rattle.cal_alloc.specs.declared.allocation_strategy.AllocationStrategy.{AllocationStrategy}
 use Rattle.cal_alloc.specs.declared.allocation_strategy.AllocationStrategy.TheVariants.{BestFit, PowerOfTwo, Static}
 use Rattle.cal_alloc.specs.Growth.{SegmentLayout, padded_size, doubled_to, least_power_of_two, fits_bucket, raised_size, raised_buckets, grown_buckets}
@@ -62,7 +61,7 @@ record MayGrow (segment : CurrentSegment) (size alignment : ℕ) : Type 0 where
   aligned : nat_lt max_memory_alignment (next_segment segment size alignment).alignment ≡ false
 
 -- a static memory without a cause serves
-static_serves : (segment : CurrentSegment) (size alignment : ℕ) → static_cause segment size alignment ≡ None →
+pub static_serves : (segment : CurrentSegment) (size alignment : ℕ) → static_cause segment size alignment ≡ None →
     serves segment size alignment ≡ true
 static_serves segment size alignment none =
     let a = first_no (nat_lt segment.layout.alignment alignment) refusal.ExceedsMaxSupportedAlignment
@@ -87,13 +86,16 @@ may_grow segment size alignment none unserved = go (is_static segment.strategy) 
   where
     next : SegmentLayout
     next = next_segment segment size alignment
+
     rest : Bool → Option Refusal
     rest static = cond static (static_cause segment size alignment)
         (cond (serves segment size alignment) None (growth_cause segment next))
+
     even : (is_power_of_two alignment ≡ true) × (rest (is_static segment.strategy) ≡ None)
     even =
         let p = first_no (not (is_power_of_two alignment)) refusal.BadLayout (rest (is_static segment.strategy)) none in
         (not-false (is_power_of_two alignment) p.0, p.1)
+
     go : (b : Bool) → is_static segment.strategy ≡ b → MayGrow segment size alignment
     go true is = absurd (true≢false (sym (static_serves segment size alignment
         (sym (ap rest is) ∙ even.1)) ∙ unserved))
@@ -146,6 +148,7 @@ raised_whole strategy old full size alignment raises h positive = go (fits_bucke
   where
     raised : ℕ
     raised = raised_size strategy (max old.size size) (max old.alignment alignment)
+
     go : (b : Bool) → fits_bucket old size alignment ≡ b →
         cond (fits_bucket old size alignment) old.size raised % max old.alignment alignment ≡ 0
     go true is =
@@ -255,6 +258,7 @@ current_sizes l place sound = last l.segments sound.segments.some sound.segments
   where
     none : SegmentLayout
     none = record { size = 0; alignment = 0; count = 0 }
+
     last : (segments : List SegmentLayout) → 1 ≤ length segments →
         ((i : ℕ) (buckets : SegmentLayout) → slice_get segments i ≡ Some buckets → HasSizes buckets) →
         HasSizes (get_or segments (length segments - 1) none)
@@ -268,6 +272,7 @@ sound_grown l place size alignment sound none = go (serves (current_segment l) s
   where
     next : SegmentLayout
     next = next_segment (current_segment l) size alignment
+
     grown : serves (current_segment l) size alignment ≡ false → IsSoundLedger (with_segment l next) place
     grown unserved =
         let may = may_grow (current_segment l) size alignment none unserved in
@@ -276,6 +281,7 @@ sound_grown l place size alignment sound none = go (serves (current_segment l) s
         (next_sizes l.settings.strategy (current_segment l).layout (current_segment l).full size alignment
         (current_sizes l place sound) may.growing may.power may.large may.aligned)
         (omega arith)
+
     go : (b : Bool) → serves (current_segment l) size alignment ≡ b → IsSoundLedger (grown_ledger l size alignment)
         place
     go true is = subst (λ b. IsSoundLedger (cond b l (with_segment l next)) place) (sym is) sound

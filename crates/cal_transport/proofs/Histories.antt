@@ -1,5 +1,5 @@
 -- What each move of a channel keeps of its history: names on their way once, in order, and within the limits.
-use Rattle.std.proofs.Common.{ℕ, zero, suc, ◌+◌, ◌-◌, ◌<◌, ◌≤◌, ◌≡◌, true, List, [], ◌∷◌, ◌++◌, length, take, drop, Some, None, refl, sym, ap, ◌∙◌, subst, arith, add-one, length-append, length-drop}
+use Rattle.std.proofs.Common.{ℕ, zero, suc, ◌+◌, ◌-◌, ◌<◌, ◌≡◌, true, List, [], ◌∷◌, ◌++◌, length, take, drop, Some, None, refl, sym, ap, ◌∙◌, subst, arith, add-one, length-append, length-drop}
 use Rattle.std.proofs.lemmas.List.{append-nil, take-append-le}
 use Rattle.cal_transport.specs.declared.settings.Settings.{Settings}
 use Rattle.cal_transport.specs.Settings.{completion_size}
@@ -7,7 +7,7 @@ use Rattle.cal_transport.specs.Ledger.{ChannelHistory, Departure, ByReceive, ByO
 use Rattle.cal_transport.specs.Step.{history_after_send, history_after_receive, history_after_release, history_after_reclaim}
 use Rattle.cal_transport.specs.Parts.{weight, IsOrderly}
 use Rattle.cal_transport.specs.Soundness.{departed_names, IsInOrder, IsWithinLimits, IsSoundHistory}
-use Rattle.cal_transport.proofs.Names.{occurrences-append, occurrences_here, received-append, drop_front, drop_front_within, queued-sent_on, weight-sent_on, orderly_sent_on, queued-received_from, received-received_from, weight-received_from, orderly_received_from, borrow_count-received_from, completed-released_on, weight-released_on, orderly_released_on, fewer_released, borrow_count-released_on, completed-reclaimed_from, weight-reclaimed_from, orderly_reclaimed_from}
+use Rattle.cal_transport.proofs.Names.{received-append, drop_front, drop_front_within, queued-sent_on, orderly_sent_on, queued-received_from, orderly_received_from, borrow_count-received_from, completed-released_on, orderly_released_on, borrow_count-released_on, completed-reclaimed_from, orderly_reclaimed_from}
 
 -- ---- lists
 

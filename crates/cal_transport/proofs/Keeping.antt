@@ -1,9 +1,9 @@
 -- Chunks stay where they are, with their names; the bytes of one that was sent stay as they are.
-use Rattle.std.proofs.Common.{ℕ, ◌+◌, ◌-◌, ◌*◌, ◌/◌, ◌%◌, ◌<◌, ◌≤◌, ◌≡◌, Bool, true, false, cond, nat_eq, nat_lt, List, [], ◌∷◌, ◌++◌, length, get_or, take, drop, Option, Some, None, option_map, refl, sym, ap, ◌∙◌, subst, arith, length-append}
+use Rattle.std.proofs.Common.{ℕ, ◌+◌, ◌-◌, ◌*◌, ◌/◌, ◌%◌, ◌≡◌, Bool, true, false, cond, nat_eq, nat_lt, List, [], ◌∷◌, ◌++◌, length, take, drop, Option, Some, None, option_map, refl, sym, ap, ◌∙◌, arith, length-append}
 use Rattle.std.specs.List.{slice_get}
 use Rattle.std.proofs.Math.Nat.{mul-div_cancel}
-use Rattle.std.proofs.lemmas.Bool.{cond-true, eq-eqb, ltb-true}
-use Rattle.std.proofs.lemmas.Option.{same_Some, none-some, slice_get-map, slice_get-get_or}
+use Rattle.std.proofs.lemmas.Bool.{cond-true, eq-eqb}
+use Rattle.std.proofs.lemmas.Option.{none-some, slice_get-map, slice_get-get_or}
 use Rattle.cal_alloc.specs.Growth.{SegmentLayout}
 use Rattle.cal_transport.specs.declared.command.Command.{Command}
 use Rattle.cal_transport.specs.declared.command.Command.TheVariants as command
@@ -12,16 +12,16 @@ use Rattle.cal_transport.specs.declared.reply.Reply.TheVariants.{Loaned, Written
 use Rattle.cal_transport.specs.declared.reply.Slot.{Slot}
 use Rattle.cal_transport.specs.declared.reply.Refusal.{Refusal}
 use Rattle.cal_transport.specs.declared.reply.Refusal.TheVariants as refusal
-use Rattle.cal_transport.specs.Ledger.{Ledger, Chunk, chunk_named, loaned_chunk, layout_at, current, is_live, is_free}
+use Rattle.cal_transport.specs.Ledger.{Ledger, Chunk, chunk_named, loaned_chunk, layout_at, current, is_free}
 use Rattle.cal_transport.specs.LoanCause.{serves, next_segment}
 use Rattle.cal_transport.specs.Cause.{cause, current_segment, send_cause}
-use Rattle.cal_transport.specs.Step.{IsStep, IsStepBy, Owes, IsLoan, after_step, after_step_by, after_command, after_loan, grown_ledger, with_bytes, with_changed_chunk, slot_of, bytes_of_chunk}
+use Rattle.cal_transport.specs.Step.{IsStep, IsStepBy, Owes, IsLoan, after_step, after_step_by, after_command, after_loan, grown_ledger, with_bytes, bytes_of_chunk}
 use Rattle.cal_transport.specs.Run.{AreSteps, after_steps}
 use Rattle.cal_transport.specs.Soundness.{IsSoundLedger}
 use Rattle.cal_transport.specs.ChunkLaws.{HasNoLiveChunk, IsReadAfterSend}
 use Rattle.cal_transport.proofs.Lists.{slice_get-append_old}
-use Rattle.cal_transport.proofs.Chunks.{IsLoaned, loaned_stands, chunk_of_name}
-use Rattle.cal_transport.proofs.Following.{Keeps, KeptAs, KeepChunks}
+use Rattle.cal_transport.proofs.Chunks.{loaned_stands, chunk_of_name}
+use Rattle.cal_transport.proofs.Following.{KeptAs}
 use Rattle.cal_transport.proofs.Lending.{not_free, free_parts}
 use Rattle.cal_transport.proofs.Sound.{stays, same_chunks, changed_chunks, changed_if, marked_sent, may_write, keeps_written, keeps_sent, keeps_discarded, sound_step, sound_steps}
 
@@ -194,6 +194,7 @@ loan_takes_free l place size alignment slot sound step i a stands alive same the
   where
     next : SegmentLayout
     next = next_segment (current_segment l) size alignment
+
     go : (b : Bool) → IsLoan (cond b l (record l { segments = l.segments ++ next ∷ [] })) place (Loaned slot) → ⊥
     go true is = lent_elsewhere l place slot sound is i a stands alive same there
     go false is = (

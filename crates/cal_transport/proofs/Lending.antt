@@ -1,14 +1,14 @@
 -- A loan in a free bucket keeps the ledger sound.
-use Rattle.std.proofs.Common.{ℕ, zero, suc, ◌+◌, ◌-◌, ◌/◌, ◌%◌, ◌<◌, ◌≤◌, ◌≡◌, inl, inr, Bool, true, false, cond, not, ◌&&◌, ◌||◌, nat_eq, nat_lt, List, [], ◌∷◌, ◌++◌, length, Some, None, refl, sym, ap, ◌∙◌, subst, arith}
+use Rattle.std.proofs.Common.{ℕ, zero, suc, ◌+◌, ◌/◌, ◌%◌, ◌<◌, ◌≡◌, inl, inr, Bool, true, false, cond, ◌&&◌, nat_eq, nat_lt, List, [], ◌∷◌, ◌++◌, Some, refl, sym, ap, ◌∙◌, subst, arith}
 use Rattle.std.specs.List.{slice_get, list_any, filter}
 use Rattle.std.proofs.lemmas.Bool.{true≢false, not-true, ltb-true, eq-eqb, and_from, or_left, or_right}
 use Rattle.std.proofs.lemmas.List.{length-replicate}
 use Rattle.std.proofs.lemmas.Option.{same_Some, none-some, slice_get_within}
 use Rattle.cal_transport.specs.declared.reply.Reply.{Reply}
 use Rattle.cal_transport.specs.declared.reply.Reply.TheVariants.{Loaned, Written, Sent, Received, Shown, Released, Reclaimed, Discarded, Counted, Refused, Transit}
-use Rattle.cal_transport.specs.Ledger.{Ledger, Chunk, ChannelHistory, layout_at, current, is_live, is_free}
-use Rattle.cal_transport.specs.Step.{IsLoan, after_loan, new_chunk, is_free_place}
-use Rattle.cal_transport.specs.Soundness.{HasSoundSegments, LiesWithin, ShareBucket, AreNamed, IsSentChunk, IsSoundLedger}
+use Rattle.cal_transport.specs.Ledger.{Ledger, Chunk, layout_at, current, is_live, is_free}
+use Rattle.cal_transport.specs.Step.{IsLoan, after_loan, new_chunk}
+use Rattle.cal_transport.specs.Soundness.{LiesWithin, ShareBucket, IsSentChunk, IsSoundLedger}
 use Rattle.cal_transport.proofs.Lists.{slice_get-append_old, old_or_new}
 
 -- ---- free buckets
@@ -43,7 +43,6 @@ not_free l segment bucket i a free stands alive same there =
 
 module _ (l : Ledger) (place : ℕ) (bucket : ℕ) (sound : IsSoundLedger l place)
     (within : bucket < (layout_at l (current l)).count) (free : is_free l (current l) bucket ≡ true) where
-
   abbrev lent_chunk : Chunk
   lent_chunk = new_chunk place (current l) bucket (layout_at l (current l)).size
 

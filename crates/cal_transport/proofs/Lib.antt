@@ -4,6 +4,8 @@ pub mod Changing
 pub mod Chunks
 pub mod Discarding
 pub mod EachChannel
+pub mod FillRounds
+pub mod Filling
 pub mod Following
 pub mod Growing
 pub mod Histories
@@ -16,11 +18,14 @@ pub mod Moved
 pub mod Moves
 pub mod Moving
 pub mod Names
+pub mod Numbers
 pub mod Opening
+pub mod Pigeons
 pub mod Reading
 pub mod Receiving
 pub mod Reclaiming
 pub mod Releasing
+pub mod RoundLists
 pub mod Running
 pub mod Sending
 pub mod Sound

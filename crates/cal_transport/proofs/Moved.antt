@@ -1,15 +1,14 @@
 -- What a move keeps: a sound history stays sound, and what is on its way then was so before, or is just sent.
-use Rattle.std.proofs.Common.{ℕ, ◌+◌, ◌-◌, ◌<◌, ◌≤◌, ◌≡◌, ◌⊎◌, inl, inr, true, List, [], ◌∷◌, length, Some, None, refl, sym, ap, ◌∙◌, subst, arith}
+use Rattle.std.proofs.Common.{ℕ, ◌+◌, ◌<◌, ◌≡◌, ◌⊎◌, inl, inr, [], ◌∷◌, None, sym, ap, ◌∙◌, subst, arith}
 use Rattle.cal_transport.specs.declared.command.Command.{Command}
 use Rattle.cal_transport.specs.declared.command.Command.TheVariants as command
 use Rattle.cal_transport.specs.declared.reply.Reply.{Reply}
-use Rattle.cal_transport.specs.Ledger.{Ledger, ChannelHistory, occurrences, queued_names}
+use Rattle.cal_transport.specs.Ledger.{Ledger, ChannelHistory, occurrences}
 use Rattle.cal_transport.specs.Cause.{cause}
-use Rattle.cal_transport.specs.Step.{history_after_send, history_after_receive, history_after_release, history_after_reclaim}
 use Rattle.cal_transport.specs.Parts.{weight}
 use Rattle.cal_transport.specs.Soundness.{IsSoundHistory}
 use Rattle.cal_transport.proofs.Lists.{same_or_apart}
-use Rattle.cal_transport.proofs.Names.{occurrences_here, occurrences_else, weight-sent_on, weight-received_from, weight-released_on, weight-reclaimed_from}
+use Rattle.cal_transport.proofs.Names.{occurrences_else, weight-sent_on, weight-received_from, weight-released_on, weight-reclaimed_from}
 use Rattle.cal_transport.proofs.Histories.{history_after_overflow, overflow_then_send, weight-overflowed, sound_sent, sound_overflowed, sound_replaced, sound_received, sound_released, sound_reclaimed}
 use Rattle.cal_transport.proofs.Moves.{IsSendable, Move, Stays, BySend, ByOverflow, ByReceive, ByRelease, ByReclaim}
 

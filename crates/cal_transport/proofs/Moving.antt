@@ -1,10 +1,9 @@
 -- Every step moves every channel as `Move` says.
-use Rattle.std.proofs.Common.{ℕ, zero, suc, ◌+◌, ◌-◌, ◌<◌, ◌≤◌, ◌≡◌, ◌≢◌, inl, inr, Bool, true, false, cond, not, ◌&&◌, ◌||◌, nat_le, nat_lt, List, [], ◌∷◌, ◌++◌, length, get_or, set, Option, Some, None, refl, sym, ap, ◌∙◌, subst, arith}
+use Rattle.std.proofs.Common.{ℕ, ◌<◌, ◌≡◌, ◌≢◌, inl, inr, Bool, true, false, cond, not, ◌&&◌, ◌||◌, nat_le, nat_lt, List, [], ◌∷◌, ◌++◌, length, set, Option, Some, None, refl, sym, ap, ◌∙◌, subst, arith}
 use Rattle.std.specs.List.{slice_get}
 use Rattle.std.proofs.lemmas.Option.{same_Some, none-some, get_or_from_slice_get}
 use Rattle.std.proofs.lemmas.List.{append-nil}
 use Rattle.std.proofs.lemmas.Bool.{or_parts, leb-false, leb-true, ltb-false, not-false}
-use Rattle.std.proofs.lemmas.Bool.Decides.{nat_tests}
 use Rattle.cal_transport.specs.declared.command.Command.{Command}
 use Rattle.cal_transport.specs.declared.command.Command.TheVariants as command
 use Rattle.cal_transport.specs.declared.reply.Reply.{Reply}
@@ -12,16 +11,16 @@ use Rattle.cal_transport.specs.declared.reply.Reply.TheVariants.{Loaned, Written
 use Rattle.cal_transport.specs.declared.reply.Refusal.{Refusal}
 use Rattle.cal_transport.specs.declared.reply.Refusal.TheVariants as refusal
 use Rattle.cal_transport.specs.Settings.{completion_size}
-use Rattle.cal_transport.specs.Ledger.{Ledger, Chunk, ChannelHistory, ByReceive, history_on, new_history, loaned_chunk, occurrences, queued_names, completed_names, is_borrowed, borrow_count, is_in_transit}
+use Rattle.cal_transport.specs.Ledger.{Ledger, Chunk, ChannelHistory, history_on, new_history, loaned_chunk, occurrences, queued_names, completed_names, is_borrowed, borrow_count, is_in_transit}
 use Rattle.cal_transport.specs.LoanCause.{serves, next_segment}
 use Rattle.cal_transport.specs.Cause.{cause, current_segment, send_cause, is_channel_outside, is_bucket_outside, is_buffer_full}
 use Rattle.cal_transport.specs.Step.{IsStep, IsStepBy, Owes, after_step, after_step_by, after_command, after_loan, grown_ledger, front, slot_named, name_sent_back, history_after_send, history_after_receive, history_after_release, history_after_reclaim}
 use Rattle.cal_transport.specs.Parts.{weight}
-use Rattle.cal_transport.specs.Soundness.{IsSoundLedger, IsSoundHistory}
+use Rattle.cal_transport.specs.Soundness.{IsSoundLedger}
 use Rattle.cal_transport.proofs.Lists.{same_or_apart, slice_get-set_same, slice_get-set_else}
 use Rattle.cal_transport.proofs.Names.{is_in_transit-weight, occurrences_here}
 use Rattle.cal_transport.proofs.Chunks.{loaned_stands, sent_slot}
-use Rattle.cal_transport.proofs.Moves.{channel_of, IsSendable, LeavesAlone, Refuses, Elsewhere, ReceivesNone, ReclaimsNone, Move, Stays, BySend, ByOverflow, ByReceive as ByReceipt, ByRelease, ByReclaim}
+use Rattle.cal_transport.proofs.Moves.{channel_of, IsSendable, Refuses, Elsewhere, ReceivesNone, ReclaimsNone, Move, Stays, BySend, ByOverflow, ByReceive as ByReceipt, ByRelease, ByReclaim}
 
 -- a channel's history after a step, and how it came to be so
 pub record MovedTo (l after : Ledger) (k : ℕ) (asked : Command) (reply : Reply) (c : ChannelHistory) : Type 0 where
@@ -139,17 +138,23 @@ sends_here l place reply k c name sound here none owes =
   where
     on : history_on l k ≡ c
     on = here_is l k c here
+
     may : MaySend l c name
     may = may_send l k c name on none
+
     new : ChannelHistory
     new = history_after_send (history_on l k) name (name_sent_back l (history_on l k))
+
     made : (back : Option ℕ) → name_sent_back l c ≡ back → new ≡ history_after_send c name back
     made back is = ap (λ h. history_after_send h name (name_sent_back l h)) on ∙ ap (history_after_send c name) is
+
     replied : (back : Option ℕ) → name_sent_back l c ≡ back → reply ≡ Sent (slot_named l back)
     replied back is = owes ∙ ap (λ h. Sent (slot_named l (name_sent_back l h))) on
         ∙ ap (λ o. Sent (slot_named l o)) is
+
     there : slice_get (set l.histories k new) k ≡ Some new
     there = slice_get-set_same l.histories k c new here
+
     go : (full : Bool) (names : List ℕ) → is_buffer_full l c ≡ full → queued_names c ≡ names →
         MovedTo l (after_command l place (command.Send k name) reply) k (command.Send k name) reply c
     go false names is queue =
@@ -204,16 +209,21 @@ receives_here l place reply k c sound here none owes = go (queued_names c) refl
   where
     on : history_on l k ≡ c
     on = here_is l k c here
+
     new : ChannelHistory
     new = history_after_receive (history_on l k) (front (queued_names (history_on l k)))
+
     made : (names : List ℕ) → queued_names c ≡ names → new ≡ history_after_receive c (front names)
     made names is = ap (λ h. history_after_receive h (front (queued_names h))) on
         ∙ ap (λ ns. history_after_receive c (front ns)) is
+
     replied : (names : List ℕ) → queued_names c ≡ names → reply ≡ Received (slot_named l (front names))
     replied names is = owes ∙ ap (λ h. Received (slot_named l (front (queued_names h)))) on
         ∙ ap (λ ns. Received (slot_named l (front ns))) is
+
     there : slice_get (set l.histories k new) k ≡ Some new
     there = slice_get-set_same l.histories k c new here
+
     room : borrow_count c < l.settings.borrow
     room =
         let inside = first_no (is_channel_outside l k) refusal.OutsideConnection
@@ -223,6 +233,7 @@ receives_here l place reply k c sound here none owes = go (queued_names c) refl
         refusal.ReceiveWouldExceedMaxBorrowValue None inside.1 in
         leb-false l.settings.borrow (borrow_count c)
         (ap (λ h. nat_le l.settings.borrow (borrow_count h)) (sym on) ∙ few.0)
+
     go : (names : List ℕ) → queued_names c ≡ names →
         MovedTo l (after_command l place (command.Receive k) reply) k (command.Receive k) reply c
     go [] queue = record {
@@ -290,16 +301,21 @@ reclaims_here l place reply k c sound here owes = go (completed_names c) refl
   where
     on : history_on l k ≡ c
     on = here_is l k c here
+
     new : ChannelHistory
     new = history_after_reclaim (history_on l k) (front (completed_names (history_on l k)))
+
     made : (names : List ℕ) → completed_names c ≡ names → new ≡ history_after_reclaim c (front names)
     made names is = ap (λ h. history_after_reclaim h (front (completed_names h))) on
         ∙ ap (λ ns. history_after_reclaim c (front ns)) is
+
     replied : (names : List ℕ) → completed_names c ≡ names → reply ≡ Reclaimed (slot_named l (front names))
     replied names is = owes ∙ ap (λ h. Reclaimed (slot_named l (front (completed_names h)))) on
         ∙ ap (λ ns. Reclaimed (slot_named l (front ns))) is
+
     there : slice_get (set l.histories k new) k ≡ Some new
     there = slice_get-set_same l.histories k c new here
+
     go : (names : List ℕ) → completed_names c ≡ names →
         MovedTo l (after_command l place (command.Reclaim k) reply) k (command.Reclaim k) reply c
     go [] done = record {

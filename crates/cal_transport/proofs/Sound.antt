@@ -1,7 +1,7 @@
 -- Every ledger that a run reaches is sound: the first one is, and each step keeps it.
-use Rattle.std.proofs.Common.{ℕ, zero, suc, ◌+◌, ◌-◌, ◌<◌, ◌≤◌, ◌≡◌, inl, inr, Bool, true, false, cond, min, max, nat_eq, nat_lt, List, [], ◌∷◌, ◌++◌, length, map, take, drop, replicate, Option, Some, None, option_map, refl, sym, ap, ◌∙◌, subst, arith, length-append, length-drop}
+use Rattle.std.proofs.Common.{ℕ, zero, suc, ◌+◌, ◌≤◌, ◌≡◌, inl, inr, true, false, cond, nat_eq, List, [], ◌∷◌, length, map, replicate, Option, Some, None, option_map, refl, sym, ap, ◌∙◌, subst, arith, length-append, length-drop}
 use Rattle.std.specs.List.{slice_get}
-use Rattle.std.proofs.lemmas.Bool.{true≢false, ltb-false, cond-true, cond-false, eq-eqb}
+use Rattle.std.proofs.lemmas.Bool.{true≢false, ltb-false, cond-true, eq-eqb}
 use Rattle.std.proofs.lemmas.Bool.Decides.{eqb_tells}
 use Rattle.std.proofs.lemmas.List.{length-set, length-take, length-replicate}
 use Rattle.std.proofs.lemmas.Option.{same_Some, none-some, slice_get-map}
@@ -18,12 +18,12 @@ use Rattle.cal_transport.specs.Cause.{cause, write_cause, exceeds_bucket}
 use Rattle.cal_transport.specs.Step.{IsStep, IsStepBy, Owes, after_step, after_step_by, after_command, front, name_sent_back, history_after_send, history_after_receive, history_after_release, history_after_reclaim, with_bytes, with_changed_chunk, grown_ledger}
 use Rattle.cal_transport.specs.Run.{AreSteps, after_steps}
 use Rattle.cal_transport.specs.Parts.{weight}
-use Rattle.cal_transport.specs.Soundness.{HasRoom, HasSizes, HasSoundSegments, IsSoundHistory, IsSentChunk, IsSoundLedger}
+use Rattle.cal_transport.specs.Soundness.{HasSizes, IsSoundHistory, IsSentChunk, IsSoundLedger}
 use Rattle.cal_transport.proofs.Opening.{can_make}
 use Rattle.cal_transport.proofs.Chunks.{same_place, loaned_stands}
-use Rattle.cal_transport.proofs.Moving.{first_no, done_moves, step_moves}
+use Rattle.cal_transport.proofs.Moving.{first_no, done_moves}
 use Rattle.cal_transport.proofs.Moved.{WasSent}
-use Rattle.cal_transport.proofs.Following.{Keeps, KeptFrom, KeptAs, KeepChunks, Follows, sound_then}
+use Rattle.cal_transport.proofs.Following.{Keeps, KeptFrom, KeepChunks, sound_then}
 use Rattle.cal_transport.proofs.Growing.{padded_whole, sound_grown}
 use Rattle.cal_transport.proofs.Lending.{sound_loan}
 
@@ -301,7 +301,7 @@ all_new zero k c stands = absurd (none-some c stands)
 all_new (suc n) zero c stands = sym (same_Some new_history c stands)
 all_new (suc n) (suc k) c stands = all_new n k c stands
 
-first_sizes : (s : Settings) → create_cause s ≡ None → HasSizes (first_layout s)
+pub first_sizes : (s : Settings) → create_cause s ≡ None → HasSizes (first_layout s)
 first_sizes s none =
     let m = can_make s none in
     let aligned = m.aligned in let size = m.size in

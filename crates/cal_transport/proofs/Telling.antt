@@ -1,5 +1,5 @@
 -- Commands and their replies tell the history of each channel.
-use Rattle.std.proofs.Common.{ℕ, ◌+◌, ◌<◌, ◌≤◌, ◌≡◌, ◌≢◌, inl, inr, Bool, true, false, cond, nat_eq, List, [], ◌∷◌, ◌++◌, length, map, Some, None, option_to_list, refl, sym, ap, ◌∙◌, subst, arith, replicate, get_or}
+use Rattle.std.proofs.Common.{ℕ, ◌+◌, ◌≡◌, ◌≢◌, inl, inr, Bool, true, false, cond, nat_eq, List, [], ◌∷◌, length, Some, None, refl, sym, ap, ◌∙◌, subst, arith, replicate}
 use Rattle.std.proofs.lemmas.Bool.{cases_lt, eq-eqb, ne_eqb, cond-true, cond-false}
 use Rattle.std.proofs.lemmas.List.{append-nil, append_assoc, get_or-replicate, get_or_past, length-replicate}
 use Rattle.cal_transport.specs.declared.settings.Settings.{Settings}
@@ -7,11 +7,10 @@ use Rattle.cal_transport.specs.declared.command.Command.{Command}
 use Rattle.cal_transport.specs.declared.command.Command.TheVariants as command
 use Rattle.cal_transport.specs.declared.reply.Reply.{Reply}
 use Rattle.cal_transport.specs.declared.reply.Reply.TheVariants.{Sent, Received, Released, Reclaimed, Refused}
-use Rattle.cal_transport.specs.declared.reply.Slot.{Slot}
 use Rattle.cal_transport.specs.declared.reply.Refusal.{Refusal}
 use Rattle.cal_transport.specs.Settings.{clamped_settings, create_cause}
-use Rattle.cal_transport.specs.Ledger.{Ledger, ChannelHistory, Departure, ByReceive, ByOverflow, new_history, history_on, first_ledger}
-use Rattle.cal_transport.specs.Step.{IsStep, after_step, history_after_send, history_after_receive, history_after_release, history_after_reclaim}
+use Rattle.cal_transport.specs.Ledger.{Ledger, ChannelHistory, ByReceive, ByOverflow, new_history, history_on, first_ledger}
+use Rattle.cal_transport.specs.Step.{after_step, history_after_send, history_after_receive, history_after_release, history_after_reclaim}
 use Rattle.cal_transport.specs.Run.{AreSteps, after_steps}
 use Rattle.cal_transport.specs.Soundness.{IsSoundHistory, IsSoundLedger}
 use Rattle.cal_transport.specs.Told.{followed_by, told_by_send, told_by_receive, told_by_release, told_by_reclaim, told_by, told_history}

@@ -16,6 +16,8 @@ pub mod Soundness
 pub mod Told
 pub mod ChunkLaws
 pub mod Capacity
+pub mod FillList
+pub mod Rounds
 pub mod Examples
 pub mod OrderExamples
 pub mod Serve

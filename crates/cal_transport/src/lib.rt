@@ -5,6 +5,7 @@ mod bytes;
 mod chunk_record;
 mod command;
 pub mod examples;
+mod fill_list;
 pub mod laws;
 mod memory;
 mod replies;
@@ -17,6 +18,7 @@ mod transport;
 
 pub use bytes::Bytes;
 pub use command::Command;
+pub use fill_list::fill_commands;
 pub use replies::Replies;
 pub use reply::{Count, Refusal, Reply, Slot};
 pub use run::{RunError, run_transport};
