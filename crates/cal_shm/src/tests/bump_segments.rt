@@ -1,6 +1,6 @@
 //! Segments that a bump allocator hands out.
 use super::fixtures::{create, layout, my_name};
-use crate::{SharedMemory, file, process_local};
+use crate::{SharedMemory, process_local};
 use cal_alloc::bump_allocator::Config;
 use cal_alloc::{BumpAllocator, ShmAllocationError};
 use cal_storage::Registry;
@@ -46,9 +46,4 @@ fn chunks_are_refused<M: SharedMemory<BumpAllocator>>(
 fn bump_segments_hand_out_from_the_front(rt: HostRuntime) -> Result<(), Fail> {
     chunks_come_from_the_front::<process_local::Memory<BumpAllocator>>(&rt, rt.alloc())?;
     chunks_are_refused::<process_local::Memory<BumpAllocator>>(&rt, rt.alloc())
-}
-
-#[test]
-fn bump_segments_are_files_too(rt: HostRuntime) -> Result<(), Fail> {
-    chunks_come_from_the_front::<file::Memory<BumpAllocator>>(&rt, rt.alloc())
 }

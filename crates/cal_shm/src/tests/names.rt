@@ -67,7 +67,6 @@ fn each_rule<A: ShmAllocator, M: SharedMemory<A>>(
 
 #[test]
 fn each_rule_of_names(rt: HostRuntime) -> Result<(), Fail> {
-    each_rule::<PoolAllocator, process_local::Memory<PoolAllocator>>(&rt, rt.alloc())?;
     each_rule::<PoolAllocator, file::Memory<PoolAllocator>>(&rt, rt.alloc())
 }
 

@@ -1,5 +1,5 @@
 //! Bytes that are written through one handle and read through another.
-use crate::{PayloadHolder, SharedMemory, SharedMemoryBuilder, file, process_local};
+use crate::{PayloadHolder, SharedMemory, SharedMemoryBuilder, process_local};
 use cal_alloc::pool_allocator::Config;
 use cal_alloc::{Layout, PointerOffset, PoolAllocator};
 use cal_names::{FileName, NamedConceptBuilder};
@@ -38,6 +38,5 @@ fn both_see_the_bytes<M: SharedMemory<PoolAllocator>>(
 
 #[test]
 fn both_handles_see_the_bytes(rt: HostRuntime) -> Result<(), Fail> {
-    both_see_the_bytes::<process_local::Memory<PoolAllocator>>(&rt, rt.alloc())?;
-    both_see_the_bytes::<file::Memory<PoolAllocator>>(&rt, rt.alloc())
+    both_see_the_bytes::<process_local::Memory<PoolAllocator>>(&rt, rt.alloc())
 }

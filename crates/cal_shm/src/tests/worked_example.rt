@@ -1,8 +1,8 @@
-//! The worked example of a segment, for both storages: what is created and opened, and the refusals in their order.
+//! The worked example of a segment: what is created and opened, and the refusals in their order.
 use super::fixtures::{create, layout, my_name, open, pool_of};
 use crate::{
     AllocatorDetails, SharedMemory, SharedMemoryBuilder, SharedMemoryCreateError,
-    SharedMemoryForPoolAllocator, SharedMemoryOpenError, file, process_local,
+    SharedMemoryForPoolAllocator, SharedMemoryOpenError, file,
 };
 use cal_alloc::{PoolAllocator, ShmAllocationError};
 use cal_names::{FileName, NamedConcept, NamedConceptBuilder};
@@ -164,6 +164,5 @@ fn each_step<M: SharedMemoryForPoolAllocator>(rt: &impl Abort, alloc: Global) ->
 
 #[test]
 fn each_step_of_the_example(rt: HostRuntime) -> Result<(), Fail> {
-    each_step::<process_local::Memory<PoolAllocator>>(&rt, rt.alloc())?;
     each_step::<file::Memory<PoolAllocator>>(&rt, rt.alloc())
 }
