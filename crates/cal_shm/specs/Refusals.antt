@@ -1,10 +1,9 @@
 -- Why a segment isn't created or opened.
-use Rattle.std.specs.Prelude.{ℕ, ◌^◌, Bool, not, nat_lt, ◌==◌, Option, Some, None, is_some, List, length, if◌then◌else◌}
+use Rattle.std.specs.Prelude.{ℕ, Bool, not, nat_lt, ◌==◌, Option, Some, None, is_some, List, length, if◌then◌else◌}
 use Rattle.std.specs.Option.{option_map, option_or}
 use Rattle.cal_alloc.specs.Limits.{max_memory_alignment}
 use Rattle.cal_names.specs.ConceptSettings.{ConceptSettings, file_path_for}
 use Rattle.cal_storage.specs.Contents.{Contents, id_at, value_at}
-use Rattle.cal_storage.specs.Plan.{StoragePlan}
 use Rattle.cal_storage.specs.Refusals.{is_too_long, open_refusal as storage_open_refusal}
 use Rattle.cal_storage.specs.declared.dynamic_storage.errors.DynamicStorageOpenError.{DynamicStorageOpenError}
 use Rattle.cal_storage.specs.declared.dynamic_storage.errors.DynamicStorageOpenError.TheVariants as storage

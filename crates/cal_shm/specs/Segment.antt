@@ -1,5 +1,5 @@
 -- A segment of memory: its allocator, and the bytes of its payload.
-use Rattle.std.specs.Prelude.{ℕ, ◌≤◌, ◌^◌, IsTrue, List, ◌++◌, length, take, drop, replicate}
+use Rattle.std.specs.Prelude.{ℕ, ◌≤◌, IsTrue, List, ◌++◌, length, take, drop, replicate}
 use Rattle.cal_alloc.specs.Chunks.{Properties}
 use Rattle.cal_alloc.specs.Limits.{max_memory_size}
 
