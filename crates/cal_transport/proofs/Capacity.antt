@@ -116,7 +116,8 @@ few_left s c h empty =
 -- ---- a full completion queue
 
 -- a release that is refused so had one more on its way than fit
-too_many : (l : Ledger) (place k name : ℕ) → IsStep l place (command.Release k name) (Refused refusal.RetrieveBufferFull) →
+too_many : (l : Ledger) (place k name : ℕ) →
+    IsStep l place (command.Release k name) (Refused refusal.RetrieveBufferFull) →
     IsSoundHistory l.settings (history_on l k) → l.settings.buffer + l.settings.borrow + 2 ≤ on_way (history_on l k)
 too_many l place k name step h = go (cause l (command.Release k name)) refl step
   where
