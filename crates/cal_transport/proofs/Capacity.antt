@@ -9,6 +9,7 @@ use Rattle.cal_transport.specs.declared.command.Command.{Command}
 use Rattle.cal_transport.specs.declared.command.Command.TheVariants as command
 use Rattle.cal_transport.specs.declared.reply.Reply.{Reply}
 use Rattle.cal_transport.specs.declared.reply.Reply.TheVariants.{Sent, Reclaimed, Refused}
+use Rattle.cal_transport.specs.declared.reply.Slot.{Slot}
 use Rattle.cal_transport.specs.declared.reply.Refusal.{Refusal}
 use Rattle.cal_transport.specs.declared.reply.Refusal.TheVariants as refusal
 use Rattle.cal_transport.specs.Settings.{create_cause, completion_size}
@@ -18,7 +19,7 @@ use Rattle.cal_transport.specs.Step.{IsStep, IsStepBy, after_step, history_after
 use Rattle.cal_transport.specs.Run.{AreSteps, AreStepsAndTransit, IsRun}
 use Rattle.cal_transport.specs.Parts.{IsOrderly}
 use Rattle.cal_transport.specs.Soundness.{IsSoundHistory, IsSoundLedger}
-use Rattle.cal_transport.specs.Capacity.{IsAnswered, IsAcceptedSend, IsEmptyReclaim, IsReclaimedBetween, KeepsUp, HasCapacity}
+use Rattle.cal_transport.specs.Capacity.{IsAnswered, IsAcceptedSend, IsEmptyReclaim, IsReclaimedBetween, HasNoSendBetween, KeepsUp, HasCapacity}
 use Rattle.cal_transport.proofs.Names.{queued-sent_on, queued-received_from, borrow_count-received_from, completed-released_on, borrow_count-released_on, fewer_released, completed-reclaimed_from}
 use Rattle.cal_transport.proofs.Histories.{history_after_overflow, overflow_then_send, queued-overflowed, received-overflowed, orderly_overflowed}
 use Rattle.cal_transport.proofs.Moves.{channel_of, Refuses, Elsewhere, ReceivesNone, ReclaimsNone, Move, Stays, BySend, ByOverflow, ByReceive, ByRelease, ByReclaim}
@@ -93,6 +94,30 @@ way_moved l k asked reply old new (ByRelease m) h =
 way_moved l k asked reply old new (ByReclaim m) h =
     inl (omega (arith, ap on_way m.made, way_reclaimed old m.name m.rest m.front))
 
+-- the reply accepts a send on the channel
+record AcceptsSend (k : ℕ) (asked : Command) (reply : Reply) : Type 0 where
+  name : ℕ
+  back : Option Slot
+  asked_is : asked ≡ command.Send k name
+  replied : reply ≡ Sent back
+
+accepts_or_not : (l : Ledger) (k : ℕ) (asked : Command) (reply : Reply) (old new : ChannelHistory) →
+    Move l k asked reply old new → (AcceptsSend k asked reply → ⊥) ⊎ AcceptsSend k asked reply
+accepts_or_not l k asked reply old new (Stays (Refuses why is refused) same) = inl (λ a. let e = a.replied in cc)
+accepts_or_not l k asked reply old new (Stays (Elsewhere none apart) same) =
+    inl (λ a. apart (ap channel_of a.asked_is))
+accepts_or_not l k asked reply old new (Stays (ReceivesNone is replied empty) same) =
+    inl (λ a. let e = a.asked_is in cc)
+accepts_or_not l k asked reply old new (Stays (ReclaimsNone is replied empty) same) =
+    inl (λ a. let e = a.asked_is in cc)
+accepts_or_not l k asked reply old new (BySend m) =
+    inr (record { name = m.name; back = None; asked_is = m.asked_is; replied = m.replied })
+accepts_or_not l k asked reply old new (ByOverflow m) =
+    inr (record { name = m.name; back = Some m.slot; asked_is = m.asked_is; replied = m.replied })
+accepts_or_not l k asked reply old new (ByReceive m) = inl (λ a. let e = m.asked_is in let q = a.asked_is in cc)
+accepts_or_not l k asked reply old new (ByRelease m) = inl (λ a. let e = m.asked_is in let q = a.asked_is in cc)
+accepts_or_not l k asked reply old new (ByReclaim m) = inl (λ a. let e = m.asked_is in let q = a.asked_is in cc)
+
 -- ---- an empty reclaim
 
 -- a reclaim that finds nothing leaves what is queued and borrowed
@@ -116,7 +141,8 @@ few_left s c h empty =
 -- ---- a full completion queue
 
 -- a release that is refused so had one more on its way than fit
-too_many : (l : Ledger) (place k name : ℕ) → IsStep l place (command.Release k name) (Refused refusal.RetrieveBufferFull) →
+too_many : (l : Ledger) (place k name : ℕ) →
+    IsStep l place (command.Release k name) (Refused refusal.RetrieveBufferFull) →
     IsSoundHistory l.settings (history_on l k) → l.settings.buffer + l.settings.borrow + 2 ≤ on_way (history_on l k)
 too_many l place k name step h = go (cause l (command.Release k name)) refl step
   where
@@ -153,9 +179,10 @@ too_many l place k name step h = go (cause l (command.Release k name)) refl step
 
 -- ---- along a run
 
--- an accepted send comes after an empty reclaim, or fewer are on their way already
+-- the next accepted send comes after an empty reclaim, or fewer are on their way already
 abbrev IsMadeRoom : Ledger → ℕ → List Command → List Reply → ℕ → Type 0
 IsMadeRoom l k commands replies end = (last : ℕ) → IsAcceptedSend k commands replies last → last < end →
+    ((p : ℕ) → p < last → IsAcceptedSend k commands replies p → ⊥) →
     (on_way (history_on l k) ≤ l.settings.buffer + l.settings.borrow) ⊎
     ((place : ℕ) × (place < last) × IsEmptyReclaim k commands replies place)
 
@@ -175,6 +202,48 @@ module _ (k : ℕ) (asked : Command) (reply : Reply) (commands : List Command) (
     answered = record { asked_there = s.answered.asked_there; replied_there = s.answered.replied_there };
   }
 
+  send_earlier : (place : ℕ) → IsAcceptedSend k (asked ∷ commands) (reply ∷ replies) (suc place) →
+      IsAcceptedSend k commands replies place
+  send_earlier place s = record {
+    name = s.name;
+    back = s.back;
+    answered = record { asked_there = s.answered.asked_there; replied_there = s.answered.replied_there };
+  }
+
+  -- the first command is an accepted send
+  send_first : AcceptsSend k asked reply → IsAcceptedSend k (asked ∷ commands) (reply ∷ replies) 0
+  send_first a = record {
+    name = a.name;
+    back = a.back;
+    answered = record { asked_there = ap Some a.asked_is; replied_there = ap Some a.replied };
+  }
+
+  first_send : IsAcceptedSend k (asked ∷ commands) (reply ∷ replies) 0 → AcceptsSend k asked reply
+  first_send s = record {
+    name = s.name;
+    back = s.back;
+    asked_is = same_Some asked (command.Send k s.name) s.answered.asked_there;
+    replied = same_Some reply (Sent s.back) s.answered.replied_there;
+  }
+
+  -- no send before a place of the rest is none between the first command and that place
+  none_after_first : (last : ℕ) → ((p : ℕ) → p < last → IsAcceptedSend k commands replies p → ⊥) →
+      HasNoSendBetween k (asked ∷ commands) (reply ∷ replies) 0 (suc last)
+  none_after_first last none zero after before s = absurd (omega arith)
+  none_after_first last none (suc p) after before s = none p (omega arith) (send_earlier p s)
+
+  -- nor one in the whole, where the first command isn't one
+  none_before : (last : ℕ) → (AcceptsSend k asked reply → ⊥) →
+      ((p : ℕ) → p < last → IsAcceptedSend k commands replies p → ⊥) →
+      (p : ℕ) → p < suc last → IsAcceptedSend k (asked ∷ commands) (reply ∷ replies) p → ⊥
+  none_before last never none zero before s = never (first_send s)
+  none_before last never none (suc p) before s = none p (omega arith) (send_earlier p s)
+
+  none_later : (first last : ℕ) → HasNoSendBetween k commands replies first last →
+      HasNoSendBetween k (asked ∷ commands) (reply ∷ replies) (suc first) (suc last)
+  none_later first last none zero after before s = absurd (omega arith)
+  none_later first last none (suc p) after before s = none p (omega arith) (omega arith) (send_earlier p s)
+
   reclaim_earlier : (place : ℕ) → IsEmptyReclaim k (asked ∷ commands) (reply ∷ replies) (suc place) →
       IsEmptyReclaim k commands replies place
   reclaim_earlier place r = record {
@@ -182,8 +251,9 @@ module _ (k : ℕ) (asked : Command) (reply : Reply) (commands : List Command) (
   }
 
   keeps_up_later : (end : ℕ) → KeepsUp k (asked ∷ commands) (reply ∷ replies) (suc end) → KeepsUp k commands replies end
-  keeps_up_later end up first last a b below before =
-      let r = up (suc first) (suc last) (send_later first a) (send_later last b) (omega arith) (omega arith) in
+  keeps_up_later end up first last a b below before none =
+      let r = up (suc first) (suc last) (send_later first a) (send_later last b) (omega arith) (omega arith)
+      (none_later first last none) in
       from r.place r.after r.before r.empty
     where
       from : (place : ℕ) → suc first < place → place < suc last →
@@ -207,14 +277,36 @@ module _ (l : Ledger) (place : ℕ) (k : ℕ) (asked : Command) (reply : Reply) 
   limit_stays : then_ledger.settings.buffer + then_ledger.settings.borrow ≡ l.settings.buffer + l.settings.borrow
   limit_stays = ap (λ s. s.buffer + s.borrow) (step_settings l place asked reply)
 
+  -- a reclaim between the first command and a place of the rest
+  later : (last : ℕ) → IsReclaimedBetween k (asked ∷ commands) (reply ∷ replies) 0 (suc last) →
+      (on_way (history_on then_ledger k) ≤ then_ledger.settings.buffer + then_ledger.settings.borrow) ⊎
+      ((q : ℕ) × (q < last) × IsEmptyReclaim k commands replies q)
+  later last r = from r.place r.after r.before r.empty
+    where
+      from : (p : ℕ) → 0 < p → p < suc last → IsEmptyReclaim k (asked ∷ commands) (reply ∷ replies) p →
+          (on_way (history_on then_ledger k) ≤ then_ledger.settings.buffer + then_ledger.settings.borrow) ⊎
+          ((q : ℕ) × (q < last) × IsEmptyReclaim k commands replies q)
+      from zero after before empty = absurd (omega arith)
+      from (suc p) after before empty =
+          inr (p, omega arith, reclaim_earlier k asked reply commands replies p empty)
+
+  after_send : AcceptsSend k asked reply → IsMadeRoom then_ledger k commands replies end
+  after_send a last sent before none = later last (f.keeps_up 0 (suc last)
+      (send_first k asked reply commands replies a) (send_later k asked reply commands replies last sent) (omega arith)
+      (omega arith) (none_after_first k asked reply commands replies last none))
+
   -- where no more are on their way
   followed_quiet : Move l k asked reply (history_on l k) (history_on then_ledger k) →
       on_way (history_on then_ledger k) ≤ on_way (history_on l k) →
       IsFollowed then_ledger k commands replies end
   followed_quiet move less = record {
     few = (let limit = limit_stays in let few = f.few in omega arith);
-    made_room = λ last sent before. room last (f.made_room (suc last)
-        (send_later k asked reply commands replies last sent) (omega arith));
+    made_room = elim (accepts_or_not l k asked reply (history_on l k) (history_on then_ledger k) move) [
+      | inl never ↦ (λ last sent before none. room last (f.made_room (suc last)
+          (send_later k asked reply commands replies last sent) (omega arith)
+          (none_before k asked reply commands replies last never none)))
+      | inr sends ↦ after_send sends
+    ];
     keeps_up = keeps_up_later k asked reply commands replies end f.keeps_up;
   }
     where
@@ -243,36 +335,20 @@ module _ (l : Ledger) (place : ℕ) (k : ℕ) (asked : Command) (reply : Reply) 
   followed_send : Added k asked reply (history_on l k) (history_on then_ledger k) →
       IsFollowed then_ledger k commands replies end
   followed_send added = record {
-    few = few (f.made_room 0 here (omega arith));
-    made_room = λ last sent before. later last (f.keeps_up 0 (suc last) here
-        (send_later k asked reply commands replies last sent) (omega arith) (omega arith));
+    few = few (f.made_room 0 (send_first k asked reply commands replies sends) (omega arith)
+        (λ p below s. absurd (omega arith)));
+    made_room = after_send sends;
     keeps_up = keeps_up_later k asked reply commands replies end f.keeps_up;
   }
     where
-      here : IsAcceptedSend k (asked ∷ commands) (reply ∷ replies) 0
-      here = record {
-        name = added.name;
-        back = None;
-        answered = record { asked_there = ap Some added.asked_is; replied_there = ap Some added.replied };
-      }
+      sends : AcceptsSend k asked reply
+      sends = record { name = added.name; back = None; asked_is = added.asked_is; replied = added.replied }
 
       few : (on_way (history_on l k) ≤ l.settings.buffer + l.settings.borrow) ⊎
           ((p : ℕ) × (p < 0) × IsEmptyReclaim k (asked ∷ commands) (reply ∷ replies) p) →
           on_way (history_on then_ledger k) ≤ then_ledger.settings.buffer + then_ledger.settings.borrow + 1
       few (inl room) = let limit = limit_stays in let more = added.more in omega arith
       few (inr made) = let below = made.1 in absurd (omega arith)
-
-      later : (last : ℕ) → IsReclaimedBetween k (asked ∷ commands) (reply ∷ replies) 0 (suc last) →
-          (on_way (history_on then_ledger k) ≤ then_ledger.settings.buffer + then_ledger.settings.borrow) ⊎
-          ((q : ℕ) × (q < last) × IsEmptyReclaim k commands replies q)
-      later last r = from r.place r.after r.before r.empty
-        where
-          from : (p : ℕ) → 0 < p → p < suc last → IsEmptyReclaim k (asked ∷ commands) (reply ∷ replies) p →
-              (on_way (history_on then_ledger k) ≤ then_ledger.settings.buffer + then_ledger.settings.borrow) ⊎
-              ((q : ℕ) × (q < last) × IsEmptyReclaim k commands replies q)
-          from zero after before empty = absurd (omega arith)
-          from (suc p) after before empty =
-              inr (p, omega arith, reclaim_earlier k asked reply commands replies p empty)
 
   followed_step : IsFollowed then_ledger k commands replies end
   followed_step =
@@ -306,7 +382,7 @@ pub steps_have_capacity : (s : Settings) (commands : List Command) (replies : Li
 steps_have_capacity s commands replies none steps k end name up full =
     let none_yet = ap on_way (first_history s k) in
     never_full (first_ledger s) 1 k name commands replies end (sound_first s none) steps
-    (record { few = omega arith; made_room = λ last sent before. inl (omega arith); keeps_up = up }) full
+    (record { few = omega arith; made_room = λ last sent before free. inl (omega arith); keeps_up = up }) full
 
 -- ---- a whole run
 
@@ -351,8 +427,9 @@ front_of commands replies place asked reply a = record {
 
 keeps_up_front : (k : ℕ) (commands : List Command) (replies : List Reply) (end : ℕ) → KeepsUp k commands replies end →
     KeepsUp k commands (take (length commands) replies) end
-keeps_up_front k commands replies end up first last a b below before =
-    let r = up first last (sent first a) (sent last b) below before in
+keeps_up_front k commands replies end up first last a b below before none =
+    let r = up first last (sent first a) (sent last b) below before
+    (λ p after earlier s. none p after earlier (sent_front p s)) in
     record {
       place = r.place;
       after = r.after;
@@ -368,6 +445,14 @@ keeps_up_front k commands replies end up first last a b below before =
       name = s.name;
       back = s.back;
       answered = whole commands replies place (command.Send k s.name) (Sent s.back) s.answered;
+    }
+
+    sent_front : (place : ℕ) → IsAcceptedSend k commands replies place →
+        IsAcceptedSend k commands (take (length commands) replies) place
+    sent_front place s = record {
+      name = s.name;
+      back = s.back;
+      answered = front_of commands replies place (command.Send k s.name) (Sent s.back) s.answered;
     }
 
 pub run_has_capacity : (s : Settings) (commands : List Command) (replies : List Reply) → create_cause s ≡ None →

@@ -1,10 +1,10 @@
 -- The rounds of the fill list, one after another, and what is in transit at its end.
-use Rattle.std.proofs.Common.{ℕ, zero, suc, ◌+◌, ◌-◌, ◌/◌, ◌%◌, ◌<◌, ◌≤◌, ◌≡◌, inl, inr, max, Bool, true, false, cond, not, ◌&&◌, ◌||◌, nat_eq, nat_le, nat_lt, List, [], ◌∷◌, ◌++◌, length, map, replicate, Option, Some, None, refl, sym, ap, ◌∙◌, subst, arith, length-append}
+use Rattle.std.proofs.Common.{ℕ, zero, suc, ◌+◌, ◌/◌, ◌%◌, ◌<◌, ◌≤◌, ◌≡◌, inl, inr, Bool, true, false, cond, not, ◌&&◌, ◌||◌, nat_eq, nat_lt, List, [], ◌∷◌, ◌++◌, length, map, replicate, Option, Some, None, refl, sym, ap, ◌∙◌, subst, arith, length-append}
 use Rattle.std.specs.Int.{is_power_of_two}
 use Rattle.std.specs.List.{slice_get, list_any, filter, flat_map}
-use Rattle.std.proofs.lemmas.Bool.{true≢false, false≢true, cases_Bool, cond-true, and_parts, and_from, not-false, not-true, or_cases, or_left, or_right, lt-ltb, lt-leb, le-ltb, ltb-true, eq-eqb, not_from_true}
+use Rattle.std.proofs.lemmas.Bool.{false≢true, cases_Bool, cond-true, and_parts, and_from, not-false, or_cases, or_left, or_right, lt-ltb, le-ltb, ltb-true, eq-eqb, not_from_true}
 use Rattle.std.proofs.lemmas.List.{length-map, length_push}
-use Rattle.std.proofs.lemmas.Option.{same_Some, none-some, slice_get_within}
+use Rattle.std.proofs.lemmas.Option.{none-some, slice_get_within}
 use Rattle.cal_alloc.specs.Growth.{SegmentLayout}
 use Rattle.cal_transport.specs.declared.settings.Settings.{Settings}
 use Rattle.cal_transport.specs.declared.command.Command.{Command}
@@ -12,7 +12,7 @@ use Rattle.cal_transport.specs.declared.command.Command.TheVariants as command
 use Rattle.cal_transport.specs.declared.reply.Reply.{Reply}
 use Rattle.cal_transport.specs.declared.reply.Reply.TheVariants.{Loaned, Written, Sent, Received, Shown, Released, Reclaimed, Discarded, Counted, Refused, Transit}
 use Rattle.cal_transport.specs.declared.reply.Refusal.TheVariants as refusal
-use Rattle.cal_transport.specs.Settings.{clamped_settings, first_layout, create_cause}
+use Rattle.cal_transport.specs.Settings.{clamped_settings, first_layout}
 use Rattle.cal_transport.specs.Ledger.{Ledger, Chunk, ChannelHistory, new_history, first_ledger, is_live, is_free, has_free_bucket, numbers_below, is_in_transit}
 use Rattle.cal_transport.specs.LoanCause.{serves, static_cause, is_static, growth_cause, next_segment}
 use Rattle.cal_transport.specs.Cause.{cause, current_segment, is_full}
@@ -27,7 +27,7 @@ use Rattle.cal_transport.proofs.Growing.{static_serves}
 use Rattle.cal_transport.proofs.Lending.{free_parts}
 use Rattle.cal_transport.proofs.Sound.{first_sizes}
 use Rattle.cal_transport.proofs.Numbers.{counted, occurrences-within}
-use Rattle.cal_transport.proofs.Pigeons.{by_bucket, how_many, counted_by_bucket, all_pass, passes_below, few_taken}
+use Rattle.cal_transport.proofs.Pigeons.{by_bucket, counted_by_bucket, all_pass, passes_below, few_taken}
 use Rattle.cal_transport.proofs.Filling.{Ends, goes_on, FillSettings, AreFillChunks, filled, no_cause, sends_on, receives_on, releases_on, reclaims_on}
 
 -- ---- a free bucket
@@ -41,7 +41,8 @@ any_unfiltered : (p q t : Chunk → Bool) (chunks : List Chunk) → ((c : Chunk)
 any_unfiltered p q t [] so some = absurd (false≢true some)
 any_unfiltered p q t (c ∷ chunks) so some = go (any_unfiltered p q t chunks so) (q c) refl
   where
-    go : (list_any p (filter q chunks) ≡ true → list_any t chunks ≡ true) → (b : Bool) → q c ≡ b → (t c || list_any t chunks) ≡ true
+    go : (list_any p (filter q chunks) ≡ true → list_any t chunks ≡ true) → (b : Bool) → q c ≡ b →
+        (t c || list_any t chunks) ≡ true
     go rest true is =
         let some' : (p c || list_any p (filter q chunks)) ≡ true =
         sym (ap (λ b. list_any p (cond b (c ∷ filter q chunks) (filter q chunks))) is) ∙ some in
@@ -68,7 +69,8 @@ free_left s first chunks opened h fewer = elim (cases_Bool (has_free_bucket l 0)
     taken none k below =
         let held = not-false (list_any (λ c. nat_eq c.segment 0 && nat_eq c.bucket k) (filter (is_live l) chunks))
         (passes_below (is_free l 0) first.count none k below) in
-        any_unfiltered (λ c. nat_eq c.segment 0 && nat_eq c.bucket k) (is_live l) (λ c. nat_eq c.bucket k && true) chunks
+        any_unfiltered (λ c. nat_eq c.segment 0 && nat_eq c.bucket k) (is_live l) (λ c. nat_eq c.bucket k && true)
+        chunks
         (λ c both. and_from (nat_eq c.bucket k) true (and_parts (nat_eq c.segment 0) (nat_eq c.bucket k) both).1 refl)
         held
 
@@ -79,7 +81,8 @@ flat_agree f g [] same = refl
 flat_agree f g (k ∷ ks) same = ap (λ front. front ++ flat_map f ks) (same k)
     ∙ ap (λ rest. g k ++ rest) (flat_agree f g ks same)
 
-filter_agree : (p q : Chunk → Bool) (chunks : List Chunk) → ((c : Chunk) → p c ≡ q c) → filter p chunks ≡ filter q chunks
+filter_agree : (p q : Chunk → Bool) (chunks : List Chunk) → ((c : Chunk) → p c ≡ q c) →
+    filter p chunks ≡ filter q chunks
 filter_agree p q [] same = refl
 filter_agree p q (c ∷ chunks) same = ap (λ b. cond b (c ∷ filter p chunks) (filter p chunks)) (same c)
     ∙ ap (λ rest. cond (q c) (c ∷ rest) rest) (filter_agree p q chunks same)
@@ -211,7 +214,8 @@ module _ (s : Settings) (first : SegmentLayout) (buffer borrow : ℕ) (f : FillS
           (static_serves (current_segment l) 1 1 static_none)
 
       lent : (reply : Reply) → IsLoan l place reply →
-          IsServed (command.Loan 1 1) reply × Ends last (after_loan (grown_ledger l 1 1) place reply) (place + 1) commands
+          IsServed (command.Loan 1 1) reply ×
+          Ends last (after_loan (grown_ledger l 1 1) place reply) (place + 1) commands
       lent (Loaned slot) is =
           let bucket = slot.place / first.size in
           let within = ltb-true bucket first.count (free_parts (nat_eq (slot.place % first.size) 0)
@@ -237,7 +241,8 @@ module _ (s : Settings) (first : SegmentLayout) (buffer borrow : ℕ) (f : FillS
       place ≡ 1 + m → m + count ≡ whole_count → AreFillChunks first m chunks → EndsFrom (counted 0 0 0) commands →
       Ends last (filled s first chunks opened (counted 0 0 0)) place (replicate count (command.Loan 1 1) ++ commands)
   loan_rounds zero m place commands chunks opened at sum h next =
-      next place chunks opened (subst (λ k. AreFillChunks first k chunks) (let e : m ≡ whole_count = omega arith in e) h)
+      next place chunks opened
+      (subst (λ k. AreFillChunks first k chunks) (let e : m ≡ whole_count = omega arith in e) h)
   loan_rounds (suc count) m place commands chunks opened at sum h next =
       loan_goes_on (replicate count (command.Loan 1 1) ++ commands) place m chunks opened at h (omega arith)
       (λ more good. loan_rounds count (suc m) (place + 1) commands more opened (omega arith) (omega arith) good next)
@@ -259,7 +264,8 @@ module _ (s : Settings) (first : SegmentLayout) (buffer borrow : ℕ) (f : FillS
       let tail = flat_map send_and_receive (names_from (1 + n + 1) count) ++ commands in
       sends_on s first buffer borrow f last place (command.Receive 0 ∷ command.Reclaim 0 ∷ tail) chunks opened n n 0 h
       (omega arith) (omega arith) (omega arith) (omega arith) (λ more good.
-      receives_on s first buffer borrow f last (place + 1) (command.Reclaim 0 ∷ tail) more opened (suc n) n 0 (omega arith)
+      receives_on s first buffer borrow f last (place + 1) (command.Reclaim 0 ∷ tail) more opened (suc n) n 0
+      (omega arith)
       (omega arith) (omega arith) (λ later.
       reclaims_on s first buffer borrow f last (place + 1 + 1) tail more later (suc n) (suc n)
       (rest (place + 1 + 1 + 1) more later good)))
@@ -285,7 +291,8 @@ module _ (s : Settings) (first : SegmentLayout) (buffer borrow : ℕ) (f : FillS
 
   turning_rounds : (count e : ℕ) (commands : List Command) → e + count ≤ buffer + 1 →
       EndsFrom (counted whole_count (e + count + borrow) (e + count)) commands →
-      EndsFrom (counted whole_count (e + borrow) e) (flat_map release_and_receive (names_from (1 + e) count) ++ commands)
+      EndsFrom (counted whole_count (e + borrow) e)
+      (flat_map release_and_receive (names_from (1 + e) count) ++ commands)
   turning_rounds zero e commands within next =
       let q : e + 0 ≡ e = omega arith in subst (λ k. EndsFrom (counted whole_count (k + borrow) k) commands) q next
   turning_rounds (suc count) e commands within next = λ place chunks opened h.
@@ -314,7 +321,8 @@ module _ (s : Settings) (first : SegmentLayout) (buffer borrow : ℕ) (f : FillS
   closing_rounds (suc count) e sum next = λ place chunks opened h.
       let p : 1 + suc e ≡ 1 + e + 1 = omega arith in
       let rest = subst (λ k. EndsFrom (counted whole_count whole_count (suc e))
-      (map (λ name. command.Release 0 name) (names_from k count))) p (closing_rounds count (suc e) (omega arith) next) in
+      (map (λ name. command.Release 0 name) (names_from k count))) p
+      (closing_rounds count (suc e) (omega arith) next) in
       releases_on s first buffer borrow f last place
       (map (λ name. command.Release 0 name) (names_from (1 + e + 1) count)) chunks opened whole_count whole_count e
       (omega arith) (omega arith) (rest (place + 1) chunks opened h)
@@ -354,7 +362,8 @@ module _ (s : Settings) (first : SegmentLayout) (buffer borrow : ℕ) (f : FillS
       (closing_rounds borrow (1 + buffer) (omega arith) end) in
       let turned_on = turning_rounds buffer 1 releases (omega arith)
       (subst (λ k. EndsFrom (counted whole_count k (1 + buffer)) releases) b closed) in
-      let left = subst (λ k. EndsFrom (counted borrow borrow 0) (flat_map send_and_leave (names_from k buffer) ++ middle)) c
+      let left = subst (λ k. EndsFrom (counted borrow borrow 0)
+      (flat_map send_and_leave (names_from k buffer) ++ middle)) c
       (leaving_rounds buffer borrow middle (omega arith) (omega arith) (exchange turns turned_on)) in
       let none : AreFillChunks first 0 [] = record {
         count = refl;
@@ -376,7 +385,8 @@ fill_settings : (s : Settings) (buffer borrow : ℕ) → AreFilled s buffer borr
     FillSettings (clamped_settings s) (first_layout s) buffer borrow
 fill_settings s buffer borrow h =
     let m = can_make s h.made in
-    let b = h.buffer_is in let r = h.borrow_is in let c = h.one_channel in let d = h.some_buffer in let e = h.some_borrow in
+    let b = h.buffer_is in let r = h.borrow_is in let c = h.one_channel in let d = h.some_buffer in
+    let e = h.some_borrow in
     let n = h.samples in
     record {
       static = h.static;

@@ -1,29 +1,27 @@
 -- Each command of the fill list is served.
-use Rattle.std.proofs.Common.{ℕ, zero, suc, ◌+◌, ◌-◌, ◌<◌, ◌≤◌, ◌≡◌, ◌≢◌, inl, inr, Bool, true, false, cond, not, ◌&&◌, ◌||◌, nat_eq, nat_le, nat_lt, List, [], ◌∷◌, ◌++◌, length, get_or, map, replicate, Option, Some, None, option_map, refl, sym, ap, ◌∙◌, subst, arith}
-use Rattle.std.specs.Int.{is_power_of_two}
-use Rattle.std.specs.List.{slice_get, find, flat_map}
+use Rattle.std.proofs.Common.{ℕ, suc, ◌+◌, ◌-◌, ◌<◌, ◌≤◌, ◌≡◌, Bool, true, false, cond, not, ◌&&◌, ◌||◌, nat_eq, nat_le, nat_lt, List, [], ◌∷◌, length, get_or, Option, Some, None, option_map, refl, sym, ap, ◌∙◌, subst, arith}
+use Rattle.std.specs.List.{slice_get, find}
 use Rattle.std.proofs.lemmas.Bool.{true≢false, and_right, or_from, lt-leb, le-ltb, cond-true, cond-false, not_from_true}
-use Rattle.std.proofs.lemmas.List.{length-map, length_push}
-use Rattle.std.proofs.lemmas.Option.{same_Some, none-some, slice_get-map, slice_get-get_or}
+use Rattle.std.proofs.lemmas.List.{length-map}
+use Rattle.std.proofs.lemmas.Option.{same_Some, slice_get-map, slice_get-get_or}
 use Rattle.cal_alloc.specs.Growth.{SegmentLayout}
 use Rattle.cal_transport.specs.declared.settings.Settings.{Settings}
 use Rattle.cal_transport.specs.declared.command.Command.{Command}
 use Rattle.cal_transport.specs.declared.command.Command.TheVariants as command
 use Rattle.cal_transport.specs.declared.reply.Reply.{Reply}
-use Rattle.cal_transport.specs.declared.reply.Reply.TheVariants.{Sent, Received, Released, Reclaimed, Refused}
 use Rattle.cal_transport.specs.declared.reply.Refusal.{Refusal}
 use Rattle.cal_transport.specs.declared.reply.Refusal.TheVariants as refusal
 use Rattle.cal_transport.specs.Settings.{completion_size}
-use Rattle.cal_transport.specs.Ledger.{Ledger, Chunk, ChannelHistory, loaned_chunk, chunk_named, if_loaned, queued_names, completed_names, is_borrowed, borrow_count, is_in_transit}
+use Rattle.cal_transport.specs.Ledger.{Ledger, Chunk, ChannelHistory, loaned_chunk, if_loaned, queued_names, completed_names, is_borrowed, borrow_count, is_in_transit}
 use Rattle.cal_transport.specs.LoanCause.{is_static}
 use Rattle.cal_transport.specs.Cause.{cause, send_cause, is_bucket_outside, is_buffer_full}
-use Rattle.cal_transport.specs.Step.{IsStepBy, Owes, after_step_by, after_command, front, slot_named, name_sent_back, history_after_send, history_after_receive, history_after_release, with_changed_chunk}
+use Rattle.cal_transport.specs.Step.{IsStepBy, Owes, after_step_by, after_command, front, name_sent_back, history_after_send, history_after_receive, with_changed_chunk}
 use Rattle.cal_transport.specs.Run.{AreStepsAndTransit}
 use Rattle.cal_transport.specs.Parts.{weight}
-use Rattle.cal_transport.specs.FillList.{names_from, IsServed, AreServed, send_and_receive, send_and_leave, release_and_receive}
+use Rattle.cal_transport.specs.FillList.{names_from, IsServed, AreServed}
 use Rattle.cal_transport.proofs.Names.{is_in_transit-weight}
 use Rattle.cal_transport.proofs.Steps.{find_first}
-use Rattle.cal_transport.proofs.Following.{Keeps, KeptFrom}
+use Rattle.cal_transport.proofs.Following.{KeptFrom}
 use Rattle.cal_transport.proofs.Sound.{changed_chunks, keeps_sent, marked_sent}
 use Rattle.cal_transport.proofs.Numbers.{counted, counted-queued, counted-queue_length, counted-borrow_count, counted-completed_length, counted-next, counted-borrowed, counted-sent, counted-taken, counted-given}
 
@@ -44,7 +42,8 @@ goes_on last l place asked commands none go (reply ∷ replies) run =
     let next = go reply (subst (λ o. IsStepBy o l place asked reply) none run.0) in (
       next.0,
       next.1 replies
-          (subst (λ o. AreStepsAndTransit (after_step_by o l place asked reply) (place + 1) commands replies) none run.1),
+          (subst (λ o. AreStepsAndTransit (after_step_by o l place asked reply) (place + 1) commands replies) none
+          run.1),
     )
 
 -- ---- the ledger along the list
@@ -119,7 +118,8 @@ module _ (s : Settings) (first : SegmentLayout) (buffer borrow : ℕ) (f : FillS
   -- ---- a send
 
   -- the chunk of a name
-  found : (chunks : List Chunk) (opened : Option ℕ) (history : ChannelHistory) (i : ℕ) → AreFillChunks first all_chunks chunks →
+  found : (chunks : List Chunk) (opened : Option ℕ) (history : ChannelHistory) (i : ℕ) →
+      AreFillChunks first all_chunks chunks →
       i < all_chunks →
       (c : Chunk) × (slice_get chunks i ≡ Some c) × (c.name ≡ 1 + i) ×
       (loaned_chunk (filled s first chunks opened history) (1 + i) ≡ Some c)

@@ -166,7 +166,8 @@ raised_some strategy old full size alignment raises h = go (fits_bucket old size
     go : (b : Bool) →
         1 ≤ cond b old.size (raised_size strategy (max old.size size) (max old.alignment alignment))
     go true = h.not_empty
-    go false = (let some = h.not_empty in raises.positive (max old.size size) (max old.alignment alignment) (omega arith))
+    go false =
+        let some = h.not_empty in raises.positive (max old.size size) (max old.alignment alignment) (omega arith)
 
 raised_sizes : (strategy : AllocationStrategy) (old : SegmentLayout) (full : Bool) (size alignment : ℕ) →
     RaisesSize strategy → HasSizes old → is_power_of_two alignment ≡ true →

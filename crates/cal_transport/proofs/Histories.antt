@@ -17,7 +17,8 @@ pub take_front : {A : Type 0} (k : ℕ) (xs : List A) (x : A) (rest : List A) �
 take_front zero [] x rest e = cc
 take_front zero (y ∷ xs) x rest e = cc
 take_front (suc k) [] x rest e = cc
-take_front (suc k) (y ∷ xs) x rest e = let e' = take_front k xs x rest e in rw add-one (ap (λ zs. y ∷ zs) (rw add-one at e'))
+take_front (suc k) (y ∷ xs) x rest e =
+    let e' = take_front k xs x rest e in rw add-one (ap (λ zs. y ∷ zs) (rw add-one at e'))
 
 pub departed-append : (xs ys : List Departure) → departed_names (xs ++ ys) ≡ departed_names xs ++ departed_names ys
 departed-append [] ys = refl

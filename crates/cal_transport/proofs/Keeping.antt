@@ -153,13 +153,15 @@ read_shows_sent l place name at long bytes sound r =
     ∙ ap (option_map (changed_if marked_sent name)) loaned.stands
     ∙ ap Some (cond-true (nat_eq c.name name) (marked_sent c) c (eq-eqb c.name name loaned.same_name)) in
     let after = sound_step l place send (Sent r.back) sound r.sent in
-    let still = sent_stays next (place + 1) r.commands r.replies loaned.index (marked_sent c) after r.between marked refl
+    let still = sent_stays next (place + 1) r.commands r.replies loaned.index (marked_sent c) after r.between marked
+    refl
     in
     let end = sound_steps next (place + 1) r.commands r.replies after r.between in
     let then = chunk_of_name last (place + 1 + length r.replies) loaned.index still.after name end.names still.stands
     (still.name ∙ loaned.same_name) in
     let before = chunk_of_name l place loaned.index c name sound.names loaned.stands loaned.same_name in
-    let read = not_refused last (place + 1 + length r.replies) (command.Read r.read_on name at long) (Shown bytes) r.read
+    let read = not_refused last (place + 1 + length r.replies) (command.Read r.read_on name at long) (Shown bytes)
+    r.read
     (λ why e. cc) in
     let shown : Shown bytes ≡ Shown (bytes_of_chunk (chunk_named last name) at long) = read.1 in
     let same : bytes ≡ bytes_of_chunk (chunk_named last name) at long = cc in

@@ -30,7 +30,8 @@ pub record MovedTo (l after : Ledger) (k : ℕ) (asked : Command) (reply : Reply
 
 -- ---- what stands behind a command without a cause
 
-pub first_no : (a : Bool) (x : Refusal) (rest : Option Refusal) → cond a (Some x) rest ≡ None → (a ≡ false) × (rest ≡ None)
+pub first_no : (a : Bool) (x : Refusal) (rest : Option Refusal) → cond a (Some x) rest ≡ None →
+    (a ≡ false) × (rest ≡ None)
 first_no false x rest e = (refl, e)
 first_no true x rest e = absurd (none-some x (sym e))
 
@@ -82,7 +83,8 @@ record MaySend (l : Ledger) (c : ChannelHistory) (name : ℕ) : Type 0 where
   new_here : weight c name ≡ 0
   room : (not l.settings.overflow && is_buffer_full l c) ≡ false
 
-may_send_chunk : (l : Ledger) (k : ℕ) (c : ChannelHistory) (name : ℕ) (chunk : Chunk) → loaned_chunk l name ≡ Some chunk →
+may_send_chunk : (l : Ledger) (k : ℕ) (c : ChannelHistory) (name : ℕ) (chunk : Chunk) →
+    loaned_chunk l name ≡ Some chunk →
     history_on l k ≡ c → send_cause l k (Some chunk) ≡ None → MaySend l c name
 may_send_chunk l k c name chunk is on none =
     let s = loaned_stands l name chunk is in
@@ -178,7 +180,8 @@ sends_here l place reply k c name sound here none owes =
         let none_queued = ap length queue in let some = sound.room.buffer in absurd (omega arith)
     go true (oldest ∷ rest) is queue =
         let back = back_is l c true (oldest ∷ rest) is queue in
-        let slot = sent_slot l place oldest sound.names (sound.known k c oldest here (queued_weighs c oldest rest queue))
+        let slot = sent_slot l place oldest sound.names
+        (sound.known k c oldest here (queued_weighs c oldest rest queue))
         in
         record {
           new = new;

@@ -1,8 +1,8 @@
 -- Names one after another, as a channel's history has them where all that is sent is received and given back in order.
-use Rattle.std.proofs.Common.{ℕ, zero, suc, ◌+◌, ◌-◌, ◌<◌, ◌≤◌, ◌≡◌, ◌≢◌, true, List, [], ◌∷◌, ◌++◌, length, drop, map, Some, None, refl, sym, ap, ◌∙◌, subst, arith}
+use Rattle.std.proofs.Common.{ℕ, zero, suc, ◌+◌, ◌-◌, ◌<◌, ◌≤◌, ◌≡◌, true, List, [], ◌∷◌, ◌++◌, length, drop, map, Some, None, refl, sym, ap, ◌∙◌, subst, arith}
 use Rattle.std.proofs.lemmas.List.{append-nil, length-map, map-append}
 use Rattle.std.proofs.lemmas.Bool.{lt-ltb}
-use Rattle.cal_transport.specs.Ledger.{ChannelHistory, Departure, ByReceive, received_names, occurrences, queued_names, completed_names, is_borrowed, borrow_count}
+use Rattle.cal_transport.specs.Ledger.{ChannelHistory, ByReceive, received_names, occurrences, queued_names, completed_names, is_borrowed, borrow_count}
 use Rattle.cal_transport.specs.Step.{history_after_send, history_after_receive, history_after_release}
 use Rattle.cal_transport.specs.Parts.{weight}
 use Rattle.cal_transport.specs.FillList.{names_from}

@@ -1,11 +1,10 @@
 -- Fewer chunks than buckets leave a bucket free, and chunks in buckets of their own are all found by their buckets.
-use Rattle.std.proofs.Common.{ℕ, zero, suc, ◌+◌, ◌<◌, ◌≤◌, ◌≡◌, ◌≢◌, inl, inr, Bool, true, false, cond, not, ◌&&◌, ◌||◌, nat_eq, nat_lt, List, [], ◌∷◌, ◌++◌, length, Some, None, refl, sym, ap, ◌∙◌, subst, arith, length-append}
+use Rattle.std.proofs.Common.{ℕ, zero, suc, ◌+◌, ◌<◌, ◌≤◌, ◌≡◌, inl, inr, Bool, true, false, cond, ◌&&◌, ◌||◌, nat_eq, nat_lt, List, [], ◌∷◌, ◌++◌, length, Some, refl, sym, ap, ◌∙◌, subst, arith, length-append}
 use Rattle.std.specs.List.{slice_get, list_any, flat_map, filter}
-use Rattle.std.proofs.lemmas.Bool.{true≢false, cases_Bool, cases_lt, not-true, not-false, or_parts}
+use Rattle.std.proofs.lemmas.Bool.{true≢false, or_parts}
 use Rattle.std.proofs.lemmas.Bool.Decides.{nat_tests, eqb_tells}
 use Rattle.std.proofs.lemmas.Grind.{flat_map-append}
 use Rattle.std.proofs.lemmas.List.Folds.{list_any-append}
-use Rattle.std.proofs.lemmas.Option.{none-some}
 use Rattle.cal_transport.specs.Ledger.{Chunk, numbers_below}
 
 -- how many of the chunks pass
@@ -112,8 +111,10 @@ some_pass : (test : Chunk → Bool) (chunks : List Chunk) → list_any test chun
 some_pass test [] some = absurd (true≢false (sym some))
 some_pass test (c ∷ chunks) some = go (some_pass test chunks) (test c) refl
   where
-    go : (list_any test chunks ≡ true → 1 ≤ how_many test chunks) → (b : Bool) → test c ≡ b → 1 ≤ length (cond (test c) (c ∷ filter test chunks) (filter test chunks))
-    go rest true is = subst (λ b. 1 ≤ length (cond b (c ∷ filter test chunks) (filter test chunks))) (sym is) (omega arith)
+    go : (list_any test chunks ≡ true → 1 ≤ how_many test chunks) → (b : Bool) → test c ≡ b →
+        1 ≤ length (cond (test c) (c ∷ filter test chunks) (filter test chunks))
+    go rest true is = subst (λ b. 1 ≤ length (cond b (c ∷ filter test chunks) (filter test chunks))) (sym is)
+        (omega arith)
     go rest false is = subst (λ b. 1 ≤ length (cond b (c ∷ filter test chunks) (filter test chunks))) (sym is)
         (rest (sym (ap (λ b. b || list_any test chunks) is) ∙ some))
 

@@ -52,7 +52,8 @@ put_together buffer borrow a b c d e f g is_a is_b is_c is_d is_e is_f is_g =
     ∙ ap (λ x. x ++ flat_map (round_of round.Release) (names_from (buffer + 2) borrow)) (is_f
     ∙ ap (λ x. x ++ turns) (is_e ∙ ap (λ x. x ++ middle) (is_d ∙ ap (λ x. x ++ leaving) (is_c
     ∙ ap (λ x. x ++ opening) b'))))
-    ∙ ap (λ x. ((((loans ++ opening) ++ leaving) ++ middle) ++ turns) ++ x) (releases_are (names_from (buffer + 2) borrow))
+    ∙ ap (λ x. ((((loans ++ opening) ++ leaving) ++ middle) ++ turns) ++ x)
+    (releases_are (names_from (buffer + 2) borrow))
     in
     g' ∙ append_assoc (((loans ++ opening) ++ leaving) ++ middle) turns closing
     ∙ append_assoc ((loans ++ opening) ++ leaving) middle (turns ++ closing)

@@ -32,11 +32,16 @@ pub record IsReclaimedBetween (channel : ℕ) (commands : List Command) (replies
   pub before : place < last
   pub empty : IsEmptyReclaim channel commands replies place
 
--- between any two accepted sends on the channel that come before a place an empty reclaim stands
+-- no chunk is sent between two places
+abbrev pub HasNoSendBetween : ℕ → List Command → List Reply → ℕ → ℕ → Type 0
+HasNoSendBetween channel commands replies first last = (place : ℕ) → first < place → place < last →
+    IsAcceptedSend channel commands replies place → ⊥
+
+-- between any two successive accepted sends on the channel that come before a place an empty reclaim stands
 abbrev pub KeepsUp : ℕ → List Command → List Reply → ℕ → Type 0
 KeepsUp channel commands replies end = (first last : ℕ) → IsAcceptedSend channel commands replies first →
     IsAcceptedSend channel commands replies last → first < last → last < end →
-    IsReclaimedBetween channel commands replies first last
+    HasNoSendBetween channel commands replies first last → IsReclaimedBetween channel commands replies first last
 
 -- where the sender keeps up to a release there, its completion queue isn't full
 abbrev pub HasCapacity : List Command → List Reply → Type 0
