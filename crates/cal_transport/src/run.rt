@@ -1,8 +1,10 @@
 //! A whole run: a transport is made, each command is served in turn, and what is in transit then is told.
 
-ghost use Rattle.std.specs.Prelude.{◌≡◌, ◌≢◌, ◌+◌, ◌<◌, ◌≤◌, OnOk, IfOk, IfErr, None, Some, Err, IsTrue};
+ghost use Rattle.std.specs.Prelude.{ℕ, ◌≡◌, ◌≢◌, ◌+◌, ◌<◌, ◌≤◌, OnOk, IfOk, IfErr, None, Some, Err, IsTrue};
 ghost use Rattle.cal_transport.specs.Settings.{create_cause};
 ghost use Rattle.cal_transport.specs.Built.{is_built};
+ghost use Rattle.cal_transport.specs.Capacity.{HasCapacity};
+ghost use Rattle.cal_transport.specs.FillList.{AreFilled, AreServed, fill_list};
 ghost use Rattle.cal_transport.specs.ChunkRecord.{AreBelow};
 ghost use Rattle.cal_transport.specs.Rules.{DoesAnywhere};
 ghost use Rattle.cal_transport.specs.Serve.{NotServed, reply_to};
@@ -43,7 +45,8 @@ enum ServeError {
 }
 
 /// Runs the commands over a transport with these settings. There is one reply for each command, and then one for
-/// each chunk in transit.
+/// each chunk in transit. A sender that finds nothing to reclaim between any two of its sends never makes a release
+/// fail, and the commands of the fill list show that a smaller completion queue would.
 pub fn run_transport(
     alloc: Global,
     settings: &Settings,
@@ -56,6 +59,9 @@ pub fn run_transport(
     ensures create { (cause : CreateCause) → create_cause settings.now ≡ Some cause →
         result ≡ Err (RunError.Create cause) }
     ensures error { IfErr result (HasError settings.now commands.now) }
+    ensures capacity { IfOk result (λ replies. HasCapacity commands.now replies.items) }
+    ensures filled { IfOk result (λ replies. (buffer borrow : ℕ) → AreFilled settings.now buffer borrow →
+        commands.now ≡ fill_list buffer borrow → AreServed (buffer + borrow + 1) commands.now replies.items) }
 {
     if let Some(cause) = settings.create_cause() {
         return Err(RunError::Create(cause));

@@ -2,7 +2,11 @@ use Rattle.std.proofs.Common.{◌≡◌, ◌+◌, [], length, Some, true, refl, 
 use Rattle.std.specs.List.{slice_get}
 use Rattle.std.proofs.lemmas.Option.{slice_get_read}
 use Rattle.cal_transport.specs.Built.{is_built}
+use Rattle.cal_transport.specs.FillList.{AreServed}
+use Rattle.cal_transport.specs.Run.{IsRun}
 use Rattle.cal_transport.specs.Serve.{NotServed}
+use Rattle.cal_transport.proofs.Capacity.{run_has_capacity}
+use Rattle.cal_transport.proofs.FillRounds.{fill_served}
 use Rattle.cal_transport.proofs.Running.{running_below, runs_on, most_is, ran, ran_uncounted, ran_out, ran_unbuilt}
 use Rattle.cal_transport.proofs.run.run_transport.Goals as goal
 
@@ -74,3 +78,14 @@ returns-clause-served c =
     ran_uncounted c.args.settings.now c.args.commands.now c.loop-index.transport c.loop-index.replies c.loop-index.index
     (length c.args.commands.now + c.most_in_transit.result)
     c.loop-index.invariant (omega arith)
+
+pub returns-clause-capacity : goal.returns-clause-capacity
+returns-clause-capacity c =
+    run_has_capacity c.args.settings.now c.args.commands.now c.transit.new.into.items (sym c.in_default.ensures.value)
+    (returns-clause-run c)
+
+pub returns-clause-filled : goal.returns-clause-filled
+returns-clause-filled c = λ buffer borrow filled is.
+    subst (λ commands. AreServed (buffer + borrow + 1) commands c.transit.new.into.items) (sym is)
+    (fill_served c.args.settings.now buffer borrow c.transit.new.into.items filled
+    (subst (λ commands. IsRun c.args.settings.now commands c.transit.new.into.items) is (returns-clause-run c)))
