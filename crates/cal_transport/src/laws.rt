@@ -39,7 +39,7 @@ pub fn replies_tell_each_channel()
 
 /// On each channel what was received or came back by overflow is, in order, a front of what was sent there, so that
 /// each was sent there, and comes once. What was reclaimed is so a front of what was released. A name is queued,
-/// borrowed or completed once at most, and as many are so as the settings allow.
+/// borrowed or completed once at most, and no more are so than the settings allow.
 pub fn a_channel_keeps_order()
     ensures in_order { (settings : Settings) (commands : List Command) (replies : List Reply) (channel : ℕ) →
         create_cause settings ≡ None → AreSteps (first_ledger settings) 1 commands replies →
@@ -65,8 +65,9 @@ pub fn a_read_shows_what_was_sent()
         IsReadAfterSend l place name at long bytes → bytes ≡ bytes_of_chunk (chunk_named l name) at long }
 {}
 
-/// Where an empty reclaim stands between any two accepted sends on a channel that come before a release there, that
-/// release isn't refused for a full completion queue: of any commands and settings, with overflow or without.
+/// Where an empty reclaim stands between any two successive accepted sends on a channel that come before a release
+/// there, that release isn't refused for a full completion queue: of any commands and settings, with overflow or
+/// without.
 pub fn a_completion_queue_has_room()
     ensures steps { (settings : Settings) (commands : List Command) (replies : List Reply) →
         create_cause settings ≡ None → AreSteps (first_ledger settings) 1 commands replies →
