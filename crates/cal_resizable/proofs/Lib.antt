@@ -1,0 +1,4 @@
+mod KeepingLemmas
+mod LeavingLemmas
+mod MemoryLemmas
+mod SlotLemmas

@@ -1,1 +1,4 @@
+pub mod Growth
+pub mod Memory
+pub mod SegmentNames
 pub mod Slots

@@ -1,8 +1,8 @@
 -- The segments that a growing memory or a view of one holds, by their numbers.
-use Rattle.std.specs.Prelude.{◌≡◌, ℕ, ◌+◌, ◌-◌, ◌<◌, ◌^◌, ◌==◌, Option, Some, None, List, [], ◌∷◌, replicate, slice_index_or, slice_set, if◌then◌else◌}
+use Rattle.std.specs.Prelude.{◌≡◌, ◌≢◌, ℕ, ◌+◌, ◌-◌, ◌<◌, ◌^◌, ◌==◌, Option, Some, None, List, [], ◌∷◌, replicate, slice_index_or, slice_set, if◌then◌else◌}
 pub use Rattle.cal_storage.specs.declared.handle.Handle.{Handle}
-use Rattle.cal_storage.specs.Contents.{Contents, after_close}
-use Rattle.cal_storage.specs.Holding.{Holds}
+use Rattle.cal_storage.specs.Contents.{Contents, Has, after_close}
+use Rattle.cal_storage.specs.Holding.{Holds, IsNamed}
 
 -- a segment that is held: its handle, and how often it is counted
 pub record HeldSegment : Type 0 where
@@ -21,11 +21,15 @@ empty_slots number = replicate number None
 abbrev pub segment_at : Slots → ℕ → Option HeldSegment
 segment_at slots number = slice_index_or slots number None
 
+-- how many segments a slot holds
+abbrev pub number_in : Option HeldSegment → ℕ
+number_in None = 0
+number_in (Some held) = 1
+
 -- how many segments are held
 abbrev pub number_held : Slots → ℕ
 number_held [] = 0
-number_held (None ∷ slots) = number_held slots
-number_held (Some segment ∷ slots) = number_held slots + 1
+number_held (slot ∷ slots) = number_in slot + number_held slots
 
 -- a slot whose segment, if there is one, is counted once more, and once less
 abbrev pub counted_more : Option HeldSegment → Option HeldSegment
@@ -60,6 +64,16 @@ pub record EachHandle (management : Handle) (slots : Slots) (fact : Handle → T
   pub of_management : fact management
   pub of_segments : EachHeld slots (λ number held. fact held.handle)
 
+-- no two numbers hold the same entry
+abbrev pub AreApart : Slots → Type 0
+AreApart slots =
+    (first second : ℕ) (one other : HeldSegment) → first ≢ second → segment_at slots first ≡ Some one →
+    segment_at slots second ≡ Some other → one.handle.id ≢ other.handle.id
+
+-- a handle isn't on the segment of a slot that is to be retired, since it isn't counted
+abbrev pub IsSpared : Option HeldSegment → Handle → Type 0
+IsSpared slot handle = (held : HeldSegment) → slot ≡ Some held → held.count ≡ 0 → handle.id ≢ held.handle.id
+
 -- an id is that of a segment that is held
 pub record IsHeldId (slots : Slots) (id : ℕ) : Type 0 where
   pub number : ℕ
@@ -85,10 +99,16 @@ module _ {T : Type 0} where
   after_retiring contents None = contents
   after_retiring contents (Some held) = if held.count == 0 then after_close contents held.handle else contents
 
-  -- Every open handle still has its entry, and no holder of it is lost, but for the handles on a segment that isn't held
-  -- any more: of its holders one is lost, so every other handle on it still has the entry.
+  -- An open handle still has its entry, no holder of it is lost, and its path still stands for it.
+  pub record LeavesHandle (old new : Contents T) (handle : Handle) : Type 0 where
+    pub has : Has old handle → Has new handle
+    pub holds : (count : ℕ) → 0 < count → count < 2 ^ 64 → Holds old count handle → Holds new count handle
+    pub named : IsNamed old handle → IsNamed new handle
+
+  -- Every handle is left as it was, but for those on a segment that isn't held any more: of its holders one is lost, so
+  -- every other open handle on it still has the entry.
   pub record SparesHandles (old new : Contents T) (before after : Slots) : Type 0 where
-    pub others : (count : ℕ) (handle : Handle) → 0 < count → count < 2 ^ 64 →
-        (IsHeldId before handle.id → IsHeldId after handle.id) → Holds old count handle → Holds new count handle
+    pub others : (handle : Handle) → (IsHeldId before handle.id → IsHeldId after handle.id) →
+        LeavesHandle old new handle
     pub sharers : (count : ℕ) (handle : Handle) → 0 < count → count + 1 < 2 ^ 64 →
         Holds old (count + 1) handle → Holds new count handle

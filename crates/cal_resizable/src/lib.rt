@@ -7,6 +7,8 @@
 #![tactic(auto)]
 
 mod errors;
+mod memory;
 mod slots;
 
 pub use errors::ResizableShmAllocationError;
+pub use memory::DynamicMemory;

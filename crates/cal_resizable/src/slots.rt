@@ -2,10 +2,12 @@
 //! the slots are made.
 ghost use Rattle.std.specs.Prelude.{◌≡◌, ◌<◌, ◌^◌, ◌-◌, ◌+◌, Some, None, IsSome, IsSomeAnd, is_some, length, replicate, IfOk};
 ghost use Rattle.std.specs.Option.{option_map};
-ghost use Rattle.cal_resizable.specs.Slots.{empty_slots, segment_at, number_held, with_more, with_less, with_segment, without_segment};
+ghost use Rattle.cal_storage.specs.Contents.{Has};
+ghost use Rattle.cal_resizable.specs.Slots.{Handle, AreApart, IsSpared, LeavesHandle, SparesHandles, without_unused, after_retiring, empty_slots, segment_at, number_held, with_more, with_less, with_segment, without_segment};
 
 use cal_alloc::ShmAllocator;
-use cal_shm::SharedMemory;
+use cal_shm::{AllocatorDetails, SharedMemory};
+use cal_storage::Registry;
 use std::alloc::{AllocError, Global};
 use std::marker::{Model, PhantomData};
 
@@ -145,6 +147,20 @@ impl<A: ShmAllocator, Shm: SharedMemory<A>> SegmentSlots<A, Shm> {
             None => unreachable!(),
         }
     }
+
+    /// Closes the segment of a number where it isn't counted, and gives it up then.
+    pub(crate) fn retire_unused(&mut self, reg: &mut Registry<AllocatorDetails<A>>, number: u8)
+        requires { IsSomeAnd (segment_at self.old number) (λ held. Has reg.old held.handle) }
+        ensures slots { self.new ≡ without_unused self.old number }
+        ensures registry { reg.new ≡ after_retiring reg.old (segment_at self.old number) }
+        ensures leaves { (handle : Handle) → IsSpared (segment_at self.old number) handle →
+            LeavesHandle reg.old reg.new handle }
+        ensures spares { AreApart self.old → SparesHandles reg.old reg.new self.old self.new }
+    {
+        if self.count(number) == 0 {
+            self.remove(number).close(reg);
+        }
+    }
 }
 
 /// Empty slots, for all segments that there can be.
@@ -152,8 +168,8 @@ fn no_segments<Shm: Drop>(alloc: Global) -> Result<Vec<Option<CountedSegment<Shm
     ensures { IfOk result (λ slots. slots.items ≡ replicate 256 None) }
 {
     let mut slots = Vec::with_capacity(alloc, NUMBER_OF_SLOTS)?;
-    for _ in 0..NUMBER_OF_SLOTS {
-        slots.push_reserved(None);
+    for number in 0..NUMBER_OF_SLOTS {
+        slots.push(None)?;
     }
     Ok(slots)
 }

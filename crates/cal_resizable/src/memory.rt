@@ -1,0 +1,171 @@
+//! Growing memory. Ported from `resizable_shared_memory/dynamic.rs` of iceoryx2-cal 0.9.3.
+ghost use Rattle.std.specs.Prelude.{◌≡◌, ◌≢◌, ◌==◌, if◌then◌else◌, ◌<◌, ◌^◌, ◌-◌, ◌⊎◌, ℕ, Some, IsSome, IsSomeAnd, IfSome, IfOk, IfErr, OnOk, OnErr};
+ghost use Rattle.std.specs.Result.{result_err};
+ghost use Rattle.cal_alloc.specs.PointerOffset.{pointer_offset, offset_of, segment_of};
+ghost use Rattle.cal_storage.specs.Contents.{Has};
+ghost use Rattle.cal_storage.specs.declared.handle.Handle.{Handle};
+ghost use Rattle.cal_shm.specs.Calls.{OfValue};
+ghost use Rattle.cal_resizable.specs.Growth.{OfSegment, AllocatesHere, GrowsBy, TakesBack, growth_plan, plan_refusal};
+ghost use Rattle.cal_resizable.specs.Memory.{HasAll, KeepsOwn};
+ghost use Rattle.cal_resizable.specs.Slots.{segment_at, count_at, number_held, with_less, without_unused, after_retiring, AreApart, IsSpared, LeavesHandle, SparesHandles};
+
+use crate::slots::{NUMBER_OF_SLOTS, SegmentSlots};
+use cal_alloc::{
+    AllocationStrategy, Layout, PointerOffset, SegmentId, ShmAllocationError, ShmAllocator,
+};
+use cal_names::FileName;
+use cal_shm::{AllocatorDetails, SharedMemory, ShmPointer};
+use cal_storage::Registry;
+use std::marker::Model;
+
+/// Growing memory: segments under one name, of which the current one hands out chunks. Contracts see a record of the
+/// name, what makes the paths, the strategy, and the segments with their numbers of chunks.
+#[derive(Debug, Drop)]
+pub struct DynamicMemory<A: ShmAllocator, Shm: SharedMemory<A>> {
+    /// The name of the memory; the name of each segment begins with it.
+    name: FileName,
+    /// What makes the paths of the segments.
+    config: Shm::Configuration,
+    /// How the memory grows.
+    strategy: AllocationStrategy,
+    /// The management segment, by which the memory is found. The memory owns it.
+    management: Shm,
+    /// The active segments, each counted once for each of its chunks: the current one and those with a chunk.
+    slots: SegmentSlots<A, Shm>,
+    /// The number of the current segment, the greatest of all that are active.
+    current: u8,
+}
+
+impl<A: ShmAllocator, Shm: SharedMemory<A>> Model for DynamicMemory<A, Shm> {
+    ghost use Rattle.cal_resizable.specs.Memory.{MemoryState, IsSoundMemory};
+
+    ghost Value = { MemoryState };
+
+    ghost view = { λ m. record {
+      name = m.name;
+      settings = Shm.Configuration.settings m.config;
+      strategy = m.strategy;
+      management = Shm.handle m.management;
+      current = m.current;
+      slots = m.slots;
+    } };
+
+    ghost invariant = { λ m. IsSoundMemory (record {
+      name = m.name;
+      settings = Shm.Configuration.settings m.config;
+      strategy = m.strategy;
+      management = Shm.handle m.management;
+      current = m.current;
+      slots = m.slots;
+    }) };
+}
+
+impl<A: ShmAllocator, Shm: SharedMemory<A>> DynamicMemory<A, Shm> {
+    /// The number of segments that are active.
+    pub fn number_of_active_segments(&self) -> usize
+        ensures active { result ≡ number_held self.now.slots }
+    {
+        self.slots.len()
+    }
+
+    /// The number of the current segment.
+    pub fn current_segment(&self) -> SegmentId
+        ensures current { result ≡ self.now.current }
+    {
+        SegmentId::new(self.current)
+    }
+
+    /// How many segments a memory can have in turn.
+    pub fn max_number_of_reallocations() -> usize
+        ensures number { result ≡ 256 }
+    {
+        NUMBER_OF_SLOTS
+    }
+
+    /// Hands out a chunk of the current segment.
+    fn allocate_here(
+        &mut self,
+        reg: &mut Registry<AllocatorDetails<A>>,
+        layout: Layout,
+    ) -> Result<ShmPointer, ShmAllocationError>
+        requires has { HasAll reg.old self.old }
+        requires room { count_at self.old.slots self.old.current < 2 ^ 64 - 1 }
+        ensures refused { OfSegment reg.old self.old.slots self.old.current
+            (λ segment. result_err result ≡ A.refusal segment.allocator layout) }
+        ensures given { IfOk result (λ pointer.
+            AllocatesHere A.ShmAllocator.own reg.old self.old layout pointer.offset reg.new self.new) }
+        ensures own { KeepsOwn reg.old self.old reg.new self.new }
+        ensures leaves { (handle : Handle) → LeavesHandle reg.old reg.new handle }
+        ensures unchanged { OnErr result (reg.new ≡ reg.old) }
+        ensures same { OnErr result (self.new ≡ self.old) }
+    {
+        let current = self.current;
+        match self.slots.segment(current).allocate(reg, layout) {
+            Ok(pointer) => {
+                self.slots.count_more(current);
+                let mut offset = pointer.offset;
+                offset.set_segment_id(SegmentId::new(current));
+                Ok(ShmPointer { offset })
+            }
+            Err(error) => Err(error),
+        }
+    }
+
+    /// Takes back the chunk at that offset, which was handed out and not taken back yet. A segment that isn't the
+    /// current one goes with its last chunk.
+    pub fn deallocate(
+        &mut self,
+        reg: &mut Registry<AllocatorDetails<A>>,
+        offset: PointerOffset,
+        layout: Layout,
+    )
+        requires has { HasAll reg.old self.old }
+        requires chunks { 0 < count_at self.old.slots (segment_of offset) }
+        requires allocated { OfSegment reg.old self.old.slots (segment_of offset)
+            (λ segment. A.IsAllocated segment.allocator (pointer_offset (offset_of offset) 0)) }
+        ensures freed { TakesBack (λ was is. A.Deallocates was (pointer_offset (offset_of offset) 0) is)
+            reg.old self.old (segment_of offset) reg.new self.new }
+        ensures own { KeepsOwn reg.old self.old reg.new self.new }
+        ensures spares { SparesHandles reg.old reg.new self.old.slots self.new.slots }
+    {
+        let number = offset.segment_id().value();
+        let in_segment = within_segment(offset);
+        self.slots
+            .segment(number)
+            .deallocate(reg, in_segment, layout);
+        take_back(&mut self.slots, reg, self.current, number);
+    }
+}
+
+/// The same offset, as the allocator of its segment knows it: in segment 0.
+fn within_segment(offset: PointerOffset) -> PointerOffset
+    ensures { result ≡ pointer_offset (offset_of offset) 0 }
+{
+    let mut in_segment = offset;
+    in_segment.set_segment_id(SegmentId::new(0));
+    in_segment
+}
+
+/// Counts a segment once less, and retires one that isn't the current one where it was counted for the last time.
+fn take_back<A: ShmAllocator, Shm: SharedMemory<A>>(
+    slots: &mut SegmentSlots<A, Shm>,
+    reg: &mut Registry<AllocatorDetails<A>>,
+    current: u8,
+    number: u8,
+)
+    requires held { IsSomeAnd (segment_at slots.old number) (λ held. 0 < held.count) }
+    requires has { IsSomeAnd (segment_at slots.old number) (λ held. Has reg.old held.handle) }
+    ensures slots { slots.new ≡ (if number == current then with_less slots.old number
+        else without_unused (with_less slots.old number) number) }
+    ensures registry { reg.new ≡ (if number == current then reg.old
+        else after_retiring reg.old (segment_at (with_less slots.old number) number)) }
+    ensures leaves { (handle : Handle) →
+        (number ≢ current → IsSpared (segment_at (with_less slots.old number) number) handle) →
+        LeavesHandle reg.old reg.new handle }
+    ensures spares { AreApart slots.old → SparesHandles reg.old reg.new slots.old slots.new }
+{
+    slots.count_less(number);
+    if number != current {
+        slots.retire_unused(reg, number);
+    }
+}
