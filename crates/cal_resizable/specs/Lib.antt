@@ -1,1 +1,3 @@
+pub mod SegmentNameLemmas
+pub mod SegmentNames
 pub mod Slots

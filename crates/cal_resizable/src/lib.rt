@@ -7,6 +7,12 @@
 #![tactic(auto)]
 
 mod errors;
+pub mod name_laws;
+pub mod names;
 mod slots;
 
 pub use errors::ResizableShmAllocationError;
+pub use names::{
+    extract_name_and_segment_id, extract_name_from_management_segment, management_segment_name,
+    segment_name,
+};
