@@ -1,3 +1,4 @@
+pub mod CutLemmas
 mod KeepingLemmas
 mod LeavingLemmas
 mod MemoryLemmas

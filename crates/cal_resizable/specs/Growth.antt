@@ -9,6 +9,7 @@ use Rattle.cal_alloc.specs.declared.shm_allocator.SharedMemorySetupHint.{SharedM
 use Rattle.cal_alloc.specs.declared.shm_allocator.ShmAllocationError.{ShmAllocationError}
 use Rattle.cal_alloc.specs.declared.shm_allocator.ShmAllocationError.TheVariants as refusal
 use Rattle.cal_alloc.specs.declared.shm_allocator.ShmAllocator as allocator
+use Rattle.cal_names.specs.ConceptSettings.{ConceptSettings}
 use Rattle.cal_storage.specs.Contents.{Contents, after_creation, new_handle}
 use Rattle.cal_storage.specs.Refusals.{finished_version}
 use Rattle.cal_shm.specs.Calls.{OfValue, ChangesAllocator}
@@ -79,11 +80,11 @@ module _ {A C : Type 0} (rules : allocator.Ghosts A C) where
   abbrev pub new_allocator : SharedMemorySetupHint C → A
   new_allocator hint = rules.new_uninit memory_alignment hint.payload_size hint.config
 
-  -- the plan of the segment of a number
-  abbrev pub segment_plan : MemoryState → ℕ → SharedMemorySetupHint C → SegmentPlan
-  segment_plan memory number hint = record {
-    name = memory.name ++ number_end number;
-    settings = memory.settings;
+  -- the plan of the segment of a name
+  abbrev pub segment_plan : ConceptSettings → List ℕ → SharedMemorySetupHint C → SegmentPlan
+  segment_plan settings name hint = record {
+    name = name;
+    settings = settings;
     options = record { is_owner = true; size = hint.payload_size };
   }
 
@@ -104,7 +105,8 @@ module _ {A C : Type 0} (rules : allocator.Ghosts A C) where
   plan_refusal contents memory (Err error) = Some error
   plan_refusal contents memory (Ok hint) =
       option_map error.SharedMemoryCreateError
-      (segment_refusal contents (segment_plan memory (memory.current + 1) hint) hint)
+      (segment_refusal contents
+      (segment_plan memory.settings (memory.name ++ number_end (memory.current + 1)) hint) hint)
 
   -- why no chunk of a layout is handed out, where the current segment refuses it and where it doesn't
   abbrev pub chunk_refusal : Contents (Segment A) → MemoryState → SizeAndAlignment → A → Option ShmAllocationError →

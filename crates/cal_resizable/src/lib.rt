@@ -7,8 +7,15 @@
 #![tactic(auto)]
 
 mod errors;
+mod growth;
 mod memory;
+pub mod name_laws;
+pub mod names;
 mod slots;
 
 pub use errors::ResizableShmAllocationError;
 pub use memory::DynamicMemory;
+pub use names::{
+    extract_name_and_segment_id, extract_name_from_management_segment, management_segment_name,
+    segment_name,
+};
