@@ -1,4 +1,5 @@
 pub mod CutLemmas
+mod GrowthLemmas
 mod KeepingLemmas
 mod LeavingLemmas
 mod MemoryLemmas

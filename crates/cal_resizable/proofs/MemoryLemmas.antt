@@ -180,7 +180,7 @@ module _ (memory : MemoryState) (sound : IsSoundMemory memory) where
   abbrev pub IsKeptHere : ℕ → HeldSegment → Type 0
   IsKeptHere = IsKept memory.slots memory.current within_current sound.apart
 
-  kept_here : EachHeld kept IsKeptHere
+  pub kept_here : EachHeld kept IsKeptHere
   kept_here = each_is_kept memory.slots memory.current within_current sound.apart
 
   used_kept : (number : ℕ) (held : HeldSegment) → IsKeptHere number held → 0 < held.count
@@ -189,7 +189,7 @@ module _ (memory : MemoryState) (sound : IsSoundMemory memory) where
     | inr differ ↦ used_before number held is.there differ
   ]
 
-  length_kept_here : length kept ≡ 256
+  pub length_kept_here : length kept ≡ 256
   length_kept_here = length_kept memory.slots memory.current within_current sound.apart ∙ sound.places
 
   pub spares_management : (number : ℕ) → IsSpared (segment_at memory.slots number) memory.management

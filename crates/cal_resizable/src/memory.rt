@@ -1,21 +1,26 @@
 //! Growing memory. Ported from `resizable_shared_memory/dynamic.rs` of iceoryx2-cal 0.9.3.
-ghost use Rattle.std.specs.Prelude.{◌≡◌, ◌≢◌, ◌==◌, if◌then◌else◌, ◌<◌, ◌^◌, ◌-◌, ◌⊎◌, ℕ, Some, IsSome, IsSomeAnd, IfSome, IfOk, IfErr, OnOk, OnErr};
+ghost use Rattle.std.specs.Prelude.{◌≡◌, ◌≢◌, ◌==◌, if◌then◌else◌, ◌<◌, ◌^◌, ◌+◌, ◌-◌, ◌++◌, ◌⊎◌, ℕ, Some, IsSome, IsSomeAnd, IfSome, IfOk, IfErr, OnOk, OnErr};
 ghost use Rattle.std.specs.Result.{result_err};
 ghost use Rattle.cal_alloc.specs.PointerOffset.{pointer_offset, offset_of, segment_of};
 ghost use Rattle.cal_storage.specs.Contents.{Has};
 ghost use Rattle.cal_storage.specs.declared.handle.Handle.{Handle};
 ghost use Rattle.cal_shm.specs.Calls.{OfValue};
-ghost use Rattle.cal_resizable.specs.Growth.{OfSegment, AllocatesHere, GrowsBy, TakesBack, growth_plan, plan_refusal};
+ghost use Rattle.cal_resizable.specs.Growth.{OfSegment, AllocatesHere, TakesBack, segment_plan, segment_refusal, made_segment, grown_contents, grown_memory};
 ghost use Rattle.cal_resizable.specs.Memory.{HasAll, KeepsOwn};
+ghost use Rattle.cal_resizable.specs.SegmentNames.{number_end};
 ghost use Rattle.cal_resizable.specs.Slots.{segment_at, count_at, number_held, with_less, without_unused, after_retiring, AreApart, IsSpared, LeavesHandle, SparesHandles};
 
+use crate::growth::make_segment;
+use crate::names::segment_name;
 use crate::slots::{NUMBER_OF_SLOTS, SegmentSlots};
 use cal_alloc::{
-    AllocationStrategy, Layout, PointerOffset, SegmentId, ShmAllocationError, ShmAllocator,
+    AllocationStrategy, Layout, PointerOffset, SegmentId, SharedMemorySetupHint,
+    ShmAllocationError, ShmAllocator,
 };
 use cal_names::FileName;
-use cal_shm::{AllocatorDetails, SharedMemory, ShmPointer};
+use cal_shm::{AllocatorDetails, SharedMemory, SharedMemoryCreateError, ShmPointer};
 use cal_storage::Registry;
+use std::alloc::Global;
 use std::marker::Model;
 
 /// Growing memory: segments under one name, of which the current one hands out chunks. Contracts see a record of the
@@ -106,6 +111,55 @@ impl<A: ShmAllocator, Shm: SharedMemory<A>> DynamicMemory<A, Shm> {
                 let mut offset = pointer.offset;
                 offset.set_segment_id(SegmentId::new(current));
                 Ok(ShmPointer { offset })
+            }
+            Err(error) => Err(error),
+        }
+    }
+
+    /// The name of the next segment.
+    fn next_name(&self) -> FileName
+        requires { self.now.current < 255 }
+        ensures { result ≡ self.now.name ++ number_end (self.now.current + 1) }
+    {
+        let _bytes = self.name.as_bytes();
+        segment_name(&self.name, SegmentId::new(self.current + 1)).unwrap()
+    }
+
+    /// Makes the next segment from a hint, and then retires the current one if it has no chunk. The new one is the
+    /// current one from then on.
+    fn grow_by(
+        &mut self,
+        alloc: Global,
+        reg: &mut Registry<AllocatorDetails<A>>,
+        hint: &SharedMemorySetupHint<A::Configuration>,
+    ) -> Result<(), SharedMemoryCreateError>
+        requires has { HasAll reg.old self.old }
+        requires below { self.old.current < 255 }
+        ensures refused { IfSome (segment_refusal A.ShmAllocator.own reg.old (segment_plan A.ShmAllocator.own
+            self.old.settings (self.old.name ++ number_end (self.old.current + 1)) hint.now) hint.now)
+            (λ error. result ≡ Err error) }
+        ensures error { IfErr result (λ error. (segment_refusal A.ShmAllocator.own reg.old
+            (segment_plan A.ShmAllocator.own self.old.settings
+            (self.old.name ++ number_end (self.old.current + 1)) hint.now) hint.now ≡ Some error)
+            ⊎ (error ≡ SharedMemoryCreateError.NoMemory)) }
+        ensures contents { OnOk result (reg.new ≡ grown_contents A.ShmAllocator.own reg.old self.old hint.now) }
+        ensures memory { OnOk result (self.new ≡ grown_memory reg.old self.old) }
+        ensures made { OnOk result (OfSegment reg.new self.new.slots self.new.current
+            (λ segment. segment ≡ made_segment A.ShmAllocator.own hint.now)) }
+        ensures empty { OnOk result (count_at self.new.slots self.new.current ≡ 0) }
+        ensures own { KeepsOwn reg.old self.old reg.new self.new }
+        ensures spares { SparesHandles reg.old reg.new self.old.slots self.new.slots }
+        ensures unchanged { OnErr result (reg.new ≡ reg.old) }
+        ensures same { OnErr result (self.new ≡ self.old) }
+    {
+        let name = self.next_name();
+        let current = self.current;
+        match make_segment(alloc, reg, &name, &self.config, hint) {
+            Ok(segment) => {
+                self.slots.retire_unused(reg, current);
+                self.slots.insert(current + 1, segment);
+                self.current = current + 1;
+                Ok(())
             }
             Err(error) => Err(error),
         }
