@@ -11,7 +11,7 @@ use Rattle.cal_shm.specs.Calls.{ChangesAllocator}
 use Rattle.cal_shm.specs.Segment.{Segment, with_allocator}
 use Rattle.cal_resizable.specs.Growth.{AllocatesHere, TakesBack, after_return, returned_contents}
 use Rattle.cal_resizable.specs.Memory.{MemoryState, IsSoundMemory, HasAll, HoldsAll, NamesAll, KeepsOwn}
-use Rattle.cal_resizable.specs.Slots.{Handle, Slots, HeldSegment, segment_at, with_more, with_less, counted_more, counted_less, count_in, count_at, without_unused, without_segment, AreApart, IsSpared, EachHeld, EachHandle, LeavesHandle, SparesHandles}
+use Rattle.cal_resizable.specs.Slots.{Handle, Slots, HeldSegment, segment_at, with_more, with_less, counted_more, counted_less, count_in, count_at, without_unused, without_segment, AreApart, IsSpared, IsHeldId, EachHeld, EachHandle, LeavesHandle, SparesHandles}
 use Rattle.cal_resizable.proofs.LeavingLemmas.{LeavesHandle-with_value, SparesHandles-after}
 use Rattle.cal_resizable.proofs.MemoryLemmas.{WasHeld, IsKept, each_is_kept, AreApart-was_held, some_is, was_held-recounted, IsSoundMemory-recounted, IsSoundMemory-without}
 use Rattle.cal_resizable.proofs.SlotLemmas.{segment_at-set-same, within_slots, set_twice}
@@ -318,3 +318,19 @@ module _ {A : Type 0} (Change : A → A → Type 0) (old freed new : Contents (S
         SparesHandles old new memory.slots slots
     SparesHandles-returned spares =
         SparesHandles-after old freed new memory.slots slots left_by_change (spares sound.apart)
+
+-- a segment that is held after a chunk was handed out was held before
+pub still_held : {A C : Type 0} (rules : allocator.Ghosts A C) (old new : Contents (Segment A))
+    (before after : MemoryState) (layout : SizeAndAlignment) (pointer : ℕ) →
+    AllocatesHere rules old before layout pointer new after → (id : ℕ) → IsHeldId after.slots id →
+    IsHeldId before.slots id
+still_held rules old new before after layout pointer here id is =
+    let at : segment_at (with_more before.slots before.current) is.number ≡ Some is.held =
+    ap (λ (m : MemoryState). segment_at m.slots is.number) (sym here.counted) ∙ is.there in
+    let was = was_held-more before.slots before.current here.held here.is_current is.number is.held at in
+    record {
+      number = is.number;
+      held = was.one;
+      there = was.there;
+      same = ap (λ (h : Handle). h.id) was.same ∙ is.same;
+    }

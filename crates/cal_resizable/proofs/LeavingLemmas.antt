@@ -128,6 +128,19 @@ module _ {T : Type 0} where
         spares.sharers count handle some small (left.holds (count + 1) (omega arith) small holds);
   }
 
+  -- and a change after which every handle is left
+  pub SparesHandles-then : (old mid new : Contents T) (before between after : Slots) →
+      SparesHandles old mid before between → ((handle : Handle) → LeavesHandle mid new handle) →
+      ((id : ℕ) → IsHeldId after id → IsHeldId between id) → SparesHandles old new before after
+  SparesHandles-then old mid new before between after spares leaves still = record {
+    others = λ handle stays.
+        LeavesHandle-then old mid new handle (spares.others handle (λ was. still handle.id (stays was)))
+        (leaves handle);
+    sharers = λ count handle some small holds.
+        let left = leaves handle in
+        left.holds count some (omega arith) (spares.sharers count handle some small holds);
+  }
+
 -- a segment that was closed since it isn't counted
 module _ {T : Type 0} (old new : Contents T) (sound : IsSound old) (slot : Option HeldSegment) (closing : Handle)
     (handle_is : option_map (λ (held : HeldSegment). held.handle) slot ≡ Some closing)

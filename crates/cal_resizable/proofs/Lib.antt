@@ -1,3 +1,4 @@
+mod AllocationLemmas
 pub mod CutLemmas
 mod GrowthLemmas
 mod KeepingLemmas

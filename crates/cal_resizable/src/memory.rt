@@ -1,16 +1,17 @@
 //! Growing memory. Ported from `resizable_shared_memory/dynamic.rs` of iceoryx2-cal 0.9.3.
-ghost use Rattle.std.specs.Prelude.{◌≡◌, ◌≢◌, ◌==◌, if◌then◌else◌, ◌<◌, ◌^◌, ◌+◌, ◌-◌, ◌++◌, ◌⊎◌, ℕ, Some, IsSome, IsSomeAnd, IfSome, IfOk, IfErr, OnOk, OnErr};
+ghost use Rattle.std.specs.Prelude.{◌≡◌, ◌≢◌, ◌==◌, if◌then◌else◌, ◌<◌, ◌^◌, ◌+◌, ◌-◌, ◌++◌, ◌⊎◌, ℕ, Some, None, IsSome, IsSomeAnd, IfSome, IfOk, IfErr, OnOk, OnErr};
 ghost use Rattle.std.specs.Result.{result_err};
 ghost use Rattle.cal_alloc.specs.PointerOffset.{pointer_offset, offset_of, segment_of};
 ghost use Rattle.cal_storage.specs.Contents.{Has};
 ghost use Rattle.cal_storage.specs.declared.handle.Handle.{Handle};
 ghost use Rattle.cal_shm.specs.Calls.{OfValue};
-ghost use Rattle.cal_resizable.specs.Growth.{OfSegment, AllocatesHere, TakesBack, segment_plan, segment_refusal, made_segment, grown_contents, grown_memory};
+ghost use Rattle.cal_resizable.specs.Growth.{OfSegment, AllocatesHere, Allocates, TakesBack, growth_plan, allocation_refusal, segment_plan, segment_refusal, made_segment, grown_contents, grown_memory};
 ghost use Rattle.cal_resizable.specs.Memory.{HasAll, KeepsOwn};
 ghost use Rattle.cal_resizable.specs.SegmentNames.{number_end};
 ghost use Rattle.cal_resizable.specs.Slots.{segment_at, count_at, number_held, with_less, without_unused, after_retiring, AreApart, IsSpared, LeavesHandle, SparesHandles};
 
-use crate::growth::make_segment;
+use crate::errors::ResizableShmAllocationError;
+use crate::growth::{make_segment, plan_growth};
 use crate::names::segment_name;
 use crate::slots::{NUMBER_OF_SLOTS, SegmentSlots};
 use cal_alloc::{
@@ -162,6 +163,66 @@ impl<A: ShmAllocator, Shm: SharedMemory<A>> DynamicMemory<A, Shm> {
                 Ok(())
             }
             Err(error) => Err(error),
+        }
+    }
+
+    /// What the next segment is made from, where the current one refuses a layout, or why there is none.
+    fn plan(
+        &self,
+        reg: &Registry<AllocatorDetails<A>>,
+        layout: Layout,
+        refusal: ShmAllocationError,
+    ) -> Result<SharedMemorySetupHint<A::Configuration>, ResizableShmAllocationError>
+        requires { HasAll reg.now self.now }
+        ensures plan { OfSegment reg.now self.now.slots self.now.current (λ segment. result
+            ≡ growth_plan A.ShmAllocator.own self.now.strategy self.now.current layout segment.allocator refusal) }
+        ensures below { OnOk result (self.now.current < 255) }
+        ensures serves { OfSegment reg.now self.now.slots self.now.current (λ segment.
+            A.refusal segment.allocator layout ≡ Some refusal → IfOk result (λ hint. (alignment : ℕ) →
+            A.refusal (A.after_init (A.new_uninit alignment hint.payload_size hint.config)) layout ≡ None)) }
+    {
+        let allocator = self.slots.segment(self.current).allocator(reg);
+        plan_growth(allocator, self.strategy, self.current, layout, refusal)
+    }
+
+    /// Hands out a chunk of that layout: of the current segment, or where that can't serve it and growth may help, of
+    /// the next one, which is made then. The offset carries the number of the segment. After an error the memory and
+    /// the registry are as before. Memory is taken by growth alone.
+    pub fn allocate(
+        &mut self,
+        alloc: Global,
+        reg: &mut Registry<AllocatorDetails<A>>,
+        layout: Layout,
+    ) -> Result<ShmPointer, ResizableShmAllocationError>
+        requires has { HasAll reg.old self.old }
+        requires room { count_at self.old.slots self.old.current < 2 ^ 64 - 1 }
+        ensures refused { OfSegment reg.old self.old.slots self.old.current (λ segment.
+            IfSome (allocation_refusal A.ShmAllocator.own reg.old self.old layout segment)
+            (λ error. result ≡ Err error)) }
+        ensures error { IfErr result (λ error. OfSegment reg.old self.old.slots self.old.current (λ segment.
+            (allocation_refusal A.ShmAllocator.own reg.old self.old layout segment ≡ Some error)
+            ⊎ (error ≡ ResizableShmAllocationError.SharedMemoryCreateError SharedMemoryCreateError.NoMemory))) }
+        ensures allocated { IfOk result (λ pointer.
+            Allocates A.ShmAllocator.own reg.old self.old layout pointer.offset reg.new self.new) }
+        ensures own { OnOk result (KeepsOwn reg.old self.old reg.new self.new) }
+        ensures spares { OnOk result (SparesHandles reg.old reg.new self.old.slots self.new.slots) }
+        ensures unchanged { OnErr result (reg.new ≡ reg.old) }
+        ensures same { OnErr result (self.new ≡ self.old) }
+    {
+        let refusal = match self.allocate_here(reg, layout) {
+            Ok(pointer) => return Ok(pointer),
+            Err(refusal) => refusal,
+        };
+        let hint = match self.plan(reg, layout, refusal) {
+            Ok(hint) => hint,
+            Err(error) => return Err(error),
+        };
+        if let Err(error) = self.grow_by(alloc, reg, &hint) {
+            return Err(ResizableShmAllocationError::SharedMemoryCreateError(error));
+        }
+        match self.allocate_here(reg, layout) {
+            Ok(pointer) => Ok(pointer),
+            Err(_) => unreachable!(),
         }
     }
 
