@@ -1,10 +1,10 @@
 //! Growing memory. Ported from `resizable_shared_memory/dynamic.rs` of iceoryx2-cal 0.9.3.
-ghost use Rattle.std.specs.Prelude.{◌≡◌, ◌≢◌, ◌==◌, if◌then◌else◌, ◌<◌, ◌^◌, ◌+◌, ◌-◌, ◌++◌, ◌⊎◌, ℕ, Some, None, IsSome, IsSomeAnd, IfSome, IfOk, IfErr, OnOk, OnErr};
+ghost use Rattle.std.specs.Prelude.{◌≡◌, ◌≢◌, ◌==◌, if◌then◌else◌, ◌<◌, ◌^◌, ◌+◌, ◌-◌, ◌++◌, ◌⊎◌, ℕ, Some, None, IsSome, IsSomeAnd, IfSome, IfOk, IfErr, OnOk, OnErr, slice_range};
 ghost use Rattle.std.specs.Result.{result_err};
 ghost use Rattle.cal_alloc.specs.PointerOffset.{pointer_offset, offset_of, segment_of};
 ghost use Rattle.cal_storage.specs.Contents.{Has};
 ghost use Rattle.cal_storage.specs.declared.handle.Handle.{Handle};
-ghost use Rattle.cal_shm.specs.Calls.{OfValue};
+ghost use Rattle.cal_shm.specs.Calls.{IsInPayload};
 ghost use Rattle.cal_resizable.specs.Growth.{OfSegment, AllocatesHere, Allocates, TakesBack, growth_plan, allocation_refusal, segment_plan, segment_refusal, made_segment, grown_contents, grown_memory};
 ghost use Rattle.cal_resizable.specs.Memory.{HasAll, KeepsOwn};
 ghost use Rattle.cal_resizable.specs.SegmentNames.{number_end};
@@ -18,7 +18,7 @@ use cal_alloc::{
     AllocationStrategy, Layout, PointerOffset, SegmentId, SharedMemorySetupHint,
     ShmAllocationError, ShmAllocator,
 };
-use cal_names::FileName;
+use cal_names::{FileName, NamedConcept};
 use cal_shm::{AllocatorDetails, SharedMemory, SharedMemoryCreateError, ShmPointer};
 use cal_storage::Registry;
 use std::alloc::Global;
@@ -66,6 +66,14 @@ impl<A: ShmAllocator, Shm: SharedMemory<A>> Model for DynamicMemory<A, Shm> {
     }) };
 }
 
+impl<A: ShmAllocator, Shm: SharedMemory<A>> NamedConcept for DynamicMemory<A, Shm> {
+    ghost concept_name = { λ m. m.name };
+
+    fn name(&self) -> &FileName {
+        &self.name
+    }
+}
+
 impl<A: ShmAllocator, Shm: SharedMemory<A>> DynamicMemory<A, Shm> {
     /// The number of segments that are active.
     pub fn number_of_active_segments(&self) -> usize
@@ -86,6 +94,23 @@ impl<A: ShmAllocator, Shm: SharedMemory<A>> DynamicMemory<A, Shm> {
         ensures number { result ≡ 256 }
     {
         NUMBER_OF_SLOTS
+    }
+
+    /// That many bytes of the segment that an offset lies in, from the offset on.
+    pub fn bytes<'r>(
+        &self,
+        reg: &'r Registry<AllocatorDetails<A>>,
+        offset: PointerOffset,
+        count: usize,
+    ) -> &'r [u8]
+        requires has { HasAll reg.now self.now }
+        requires within { OfSegment reg.now self.now.slots (segment_of offset)
+            (λ segment. IsInPayload segment.payload (offset_of offset) count) }
+        ensures bytes { OfSegment reg.now self.now.slots (segment_of offset) (λ segment.
+            result.now ≡ slice_range segment.payload (offset_of offset) (offset_of offset + count)) }
+    {
+        let number = offset.segment_id().value();
+        self.slots.segment(number).bytes(reg, offset, count)
     }
 
     /// Hands out a chunk of the current segment.
