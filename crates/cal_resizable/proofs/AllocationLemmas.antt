@@ -1,6 +1,5 @@
 -- What an allocation answers, from what its steps answer.
-use Rattle.std.proofs.Common.{◌≡◌, ◌≢◌, ℕ, ◌+◌, ◌⊎◌, Bool, Option, Some, None, IsSomeAnd, IfSome, IfOk, Result, Ok, Err, List, ◌++◌, option_map, refl, sym, ap, ◌∙◌, subst, inl, inr}
-use Rattle.std.proofs.lemmas.Option.{none-some, same_Some}
+use Rattle.std.proofs.Common.{◌≡◌, ℕ, ◌+◌, ◌⊎◌, Option, Some, None, IsSomeAnd, IfSome, Result, Ok, ◌++◌, option_map, sym, ap, ◌∙◌, subst, inl, inr}
 use Rattle.cal_alloc.specs.SizeAndAlignment.{SizeAndAlignment}
 use Rattle.cal_alloc.specs.declared.shm_allocator.SharedMemorySetupHint.{SharedMemorySetupHint}
 use Rattle.cal_alloc.specs.declared.shm_allocator.ShmAllocationError.{ShmAllocationError}
@@ -10,7 +9,7 @@ use Rattle.cal_shm.specs.Segment.{Segment}
 use Rattle.cal_shm.specs.declared.errors.SharedMemoryCreateError.{SharedMemoryCreateError}
 use Rattle.cal_shm.specs.declared.errors.SharedMemoryCreateError.TheVariants.{NoMemory}
 use Rattle.cal_shm.specs.Calls.{OfValue}
-use Rattle.cal_resizable.specs.Growth.{OfSegment, AllocatesHere, AllocatesAfter, AllocatesBy, Allocates, growth_plan, plan_refusal, chunk_refusal, allocation_refusal, segment_plan, segment_refusal, grown_contents, grown_memory}
+use Rattle.cal_resizable.specs.Growth.{OfSegment, AllocatesHere, AllocatesAfter, AllocatesBy, Allocates, growth_plan, plan_refusal, chunk_refusal, allocation_refusal, segment_plan, segment_refusal}
 use Rattle.cal_resizable.specs.Memory.{MemoryState}
 use Rattle.cal_resizable.specs.SegmentNames.{number_end}
 use Rattle.cal_resizable.specs.Slots.{Handle, Slots, HeldSegment, segment_at}

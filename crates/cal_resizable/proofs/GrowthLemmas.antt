@@ -1,11 +1,11 @@
 -- What growth leaves: the memory, its entries, and those of others.
-use Rattle.std.proofs.Common.{◌≡◌, ◌≢◌, ℕ, ◌+◌, ◌<◌, ◌≤◌, ◌==◌, Bool, true, false, if◌then◌else◌, Option, Some, None, IsSome, IsSomeAnd, option_map, List, length, slice_set, refl, sym, ap, ◌∙◌, subst, inl, inr, arith}
+use Rattle.std.proofs.Common.{◌≡◌, ◌≢◌, ℕ, ◌+◌, ◌<◌, ◌==◌, Bool, true, false, if◌then◌else◌, Option, Some, None, IsSome, IsSomeAnd, option_map, List, length, refl, sym, ap, ◌∙◌, subst, inl, inr, arith}
 use Rattle.std.proofs.lemmas.Bool.{cases_eq}
 use Rattle.std.proofs.lemmas.List.{get_or_past}
-use Rattle.std.proofs.lemmas.Option.{none-some, same_Some}
+use Rattle.std.proofs.lemmas.Option.{same_Some}
 use Rattle.cal_storage.specs.declared.entry.Entry.{Entry}
 use Rattle.cal_storage.specs.declared.entry.Slot.TheVariants.{Ended}
-use Rattle.cal_storage.specs.Contents.{Contents, Has, id_at, entry_in, entry_of, value_of, after_creation, after_close, new_handle}
+use Rattle.cal_storage.specs.Contents.{Contents, Has, id_at, entry_in, entry_of, value_of, after_creation, after_close}
 use Rattle.cal_storage.specs.ContentsLaws.{MakesEntry}
 use Rattle.cal_storage.specs.EntryLemmas.{after_creation-MakesEntry}
 use Rattle.cal_storage.specs.Holding.{Holds, IsNamed}
@@ -13,10 +13,10 @@ use Rattle.cal_storage.specs.ValueLemmas.{entry_of-after_close-other}
 use Rattle.cal_shm.specs.Calls.{OfValue}
 use Rattle.cal_resizable.specs.Growth.{OfSegment, next_handle, grown_memory}
 use Rattle.cal_resizable.specs.Memory.{MemoryState, IsSoundMemory, HasAll, KeepsOwn, segment_path}
-use Rattle.cal_resizable.specs.Slots.{Handle, Slots, HeldSegment, segment_at, count_at, count_in, without_unused, with_segment, after_retiring, AreApart, IsSpared, IsHeldId, EachHeld, EachHandle, LeavesHandle, SparesHandles}
-use Rattle.cal_resizable.proofs.KeepingLemmas.{IsNewHandle, Stays, KeepsOwn-stays}
+use Rattle.cal_resizable.specs.Slots.{Handle, Slots, HeldSegment, segment_at, without_unused, with_segment, after_retiring, AreApart, IsSpared, IsHeldId, EachHeld, EachHandle, LeavesHandle, SparesHandles}
+use Rattle.cal_resizable.proofs.KeepingLemmas.{Stays, KeepsOwn-stays}
 use Rattle.cal_resizable.proofs.LeavingLemmas.{LeavesHandle-after_creation, LeavesHandle-then, SparesHandles-after}
-use Rattle.cal_resizable.proofs.MemoryLemmas.{IsKeptHere, WasHeld, kept_here, length_kept_here, each_grown, IsSoundMemory-grown, some_is, spares_management}
+use Rattle.cal_resizable.proofs.MemoryLemmas.{kept_here, length_kept_here, each_grown, IsSoundMemory-grown, some_is, spares_management}
 use Rattle.cal_resizable.proofs.SlotLemmas.{segment_at-set-same, segment_at-set-other}
 
 module _ {T : Type 0} where

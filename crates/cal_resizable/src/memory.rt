@@ -2,6 +2,7 @@
 ghost use Rattle.std.specs.Prelude.{◌≡◌, ◌≢◌, ◌==◌, if◌then◌else◌, ◌<◌, ◌^◌, ◌+◌, ◌-◌, ◌++◌, ◌⊎◌, ℕ, Some, None, IsSome, IsSomeAnd, IfSome, IfOk, IfErr, OnOk, OnErr, slice_range};
 ghost use Rattle.std.specs.Result.{result_err};
 ghost use Rattle.cal_alloc.specs.PointerOffset.{pointer_offset, offset_of, segment_of};
+ghost use Rattle.cal_alloc.specs.Pool.{IsUsedBucket, FreesBucket};
 ghost use Rattle.cal_storage.specs.Contents.{Has};
 ghost use Rattle.cal_storage.specs.declared.handle.Handle.{Handle};
 ghost use Rattle.cal_shm.specs.Calls.{IsInPayload};
@@ -15,11 +16,14 @@ use crate::growth::{make_segment, plan_growth};
 use crate::names::segment_name;
 use crate::slots::{NUMBER_OF_SLOTS, SegmentSlots};
 use cal_alloc::{
-    AllocationStrategy, Layout, PointerOffset, SegmentId, SharedMemorySetupHint,
+    AllocationStrategy, Layout, PointerOffset, PoolAllocator, SegmentId, SharedMemorySetupHint,
     ShmAllocationError, ShmAllocator,
 };
 use cal_names::{FileName, NamedConcept};
-use cal_shm::{AllocatorDetails, SharedMemory, SharedMemoryCreateError, ShmPointer};
+use cal_shm::{
+    AllocatorDetails, SharedMemory, SharedMemoryCreateError, SharedMemoryForPoolAllocator,
+    ShmPointer,
+};
 use cal_storage::Registry;
 use std::alloc::Global;
 use std::marker::Model;
@@ -274,6 +278,46 @@ impl<A: ShmAllocator, Shm: SharedMemory<A>> DynamicMemory<A, Shm> {
             .segment(number)
             .deallocate(reg, in_segment, layout);
         take_back(&mut self.slots, reg, self.current, number);
+    }
+}
+
+impl<Shm: SharedMemoryForPoolAllocator> DynamicMemory<PoolAllocator, Shm> {
+    /// Takes back the bucket at that offset, which was handed out and not taken back yet. A segment that isn't the
+    /// current one goes with its last bucket.
+    pub fn deallocate_bucket(
+        &mut self,
+        reg: &mut Registry<AllocatorDetails<PoolAllocator>>,
+        offset: PointerOffset,
+    )
+        requires has { HasAll reg.old self.old }
+        requires chunks { 0 < count_at self.old.slots (segment_of offset) }
+        requires allocated { OfSegment reg.old self.old.slots (segment_of offset)
+            (λ segment. IsUsedBucket segment.allocator (pointer_offset (offset_of offset) 0)) }
+        ensures freed { TakesBack (λ was is. FreesBucket was (pointer_offset (offset_of offset) 0) is)
+            reg.old self.old (segment_of offset) reg.new self.new }
+        ensures own { KeepsOwn reg.old self.old reg.new self.new }
+        ensures spares { SparesHandles reg.old reg.new self.old.slots self.new.slots }
+    {
+        let number = offset.segment_id().value();
+        let in_segment = within_segment(offset);
+        self.slots
+            .segment(number)
+            .deallocate_bucket(reg, in_segment);
+        take_back(&mut self.slots, reg, self.current, number);
+    }
+
+    /// The size of each bucket of a segment in bytes.
+    pub fn bucket_size(
+        &self,
+        reg: &Registry<AllocatorDetails<PoolAllocator>>,
+        segment_id: SegmentId,
+    ) -> usize
+        requires has { HasAll reg.now self.now }
+        requires active { IsSome (segment_at self.now.slots segment_id) }
+        ensures size { OfSegment reg.now self.now.slots segment_id
+            (λ segment. result ≡ segment.allocator.buckets.size) }
+    {
+        self.slots.segment(segment_id.value()).bucket_size(reg)
     }
 }
 

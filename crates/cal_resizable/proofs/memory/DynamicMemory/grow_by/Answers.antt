@@ -1,6 +1,6 @@
-use Rattle.std.proofs.Common.{◌≡◌, ◌<◌, ◌+◌, ◌++◌, None, true, refl, sym, ap, subst, ◌∙◌}
+use Rattle.std.proofs.Common.{◌≡◌, ◌<◌, ◌+◌, ◌++◌, None, true, sym, ap, subst, ◌∙◌}
 use Rattle.cal_names.specs.ConceptSettings.{file_path_for}
-use Rattle.cal_storage.specs.Contents.{Has, id_at, after_creation, new_handle}
+use Rattle.cal_storage.specs.Contents.{id_at, after_creation, new_handle}
 use Rattle.cal_storage.specs.Refusals.{finished_version}
 use Rattle.cal_resizable.specs.Growth.{made_segment, next_handle}
 use Rattle.cal_resizable.specs.Memory.{MemoryState, HasAll, segment_path}

@@ -1,4 +1,4 @@
-use Rattle.std.proofs.Common.{◌≡◌, ℕ, Some, None, IfOk, sym, ap, subst, ◌∙◌}
+use Rattle.std.proofs.Common.{◌≡◌, ap, ◌∙◌}
 use Rattle.cal_resizable.specs.Growth.{growth_plan}
 use Rattle.cal_resizable.proofs.AllocationLemmas.{of_handle, of_one}
 use Rattle.cal_resizable.proofs.memory.DynamicMemory.plan.Goals as goal
