@@ -1,0 +1,7 @@
+mod AllocationLemmas
+pub mod CutLemmas
+mod GrowthLemmas
+mod KeepingLemmas
+mod LeavingLemmas
+mod MemoryLemmas
+mod SlotLemmas

@@ -1,0 +1,5 @@
+pub mod Growth
+pub mod Memory
+pub mod SegmentNameLemmas
+pub mod SegmentNames
+pub mod Slots

@@ -1,0 +1,21 @@
+//! Growing memory: segments under one name, of which the owner makes another where the one in use can't serve. Views
+//! open a segment when the first offset of it arrives.
+//!
+//! The layer above may rely on this: the segments that are there are the current one and those with a chunk, their
+//! numbers only grow, one growth serves the request that led to it, and each call leaves every entry that isn't one of
+//! the memory's own.
+#![tactic(auto)]
+
+mod errors;
+mod growth;
+mod memory;
+pub mod name_laws;
+pub mod names;
+mod slots;
+
+pub use errors::ResizableShmAllocationError;
+pub use memory::DynamicMemory;
+pub use names::{
+    extract_name_and_segment_id, extract_name_from_management_segment, management_segment_name,
+    segment_name,
+};
