@@ -1,5 +1,10 @@
-pub mod CutLemmas
+mod ClosingLemmas
+mod CutLemmas
 mod KeepingLemmas
 mod LeavingLemmas
 mod MemoryLemmas
 mod SlotLemmas
+mod ViewCallLemmas
+mod ViewLawLemmas
+mod ViewLemmas
+mod ViewSlotLemmas

@@ -207,7 +207,7 @@ number_end-bytes = by_digits (λ _ ds. AllPass is_file_name_byte (codes "__" ++ 
     last : (x : ℕ) → x < 10 → list_all is_file_name_byte ((48 + x) ∷ []) ≡ true
     last x small = ap (λ t. t && true) (digit-byte x small)
 
-number_end-length : (n : ℕ) → n < 256 → length (number_end n) ≤ 5
+pub number_end-length : (n : ℕ) → n < 256 → length (number_end n) ≤ 5
 number_end-length = by_digits (λ _ ds. length (codes "__" ++ ds) ≤ 5)
     (λ n low. omega arith) (λ n ten low. omega arith) (λ n hundred low. omega arith)
 

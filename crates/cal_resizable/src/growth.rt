@@ -59,7 +59,8 @@ pub(crate) fn plan_growth<A: ShmAllocator>(
 {
     if !may_help(refusal)
         || !grows(strategy)
-        || !(A::growth_raises_alignment() || layout.align() <= allocator.max_alignment()) {
+        || !(A::growth_raises_alignment() || layout.align() <= allocator.max_alignment())
+    {
         return Err(ResizableShmAllocationError::ShmAllocationError(refusal));
     }
     if current == LAST_NUMBER {

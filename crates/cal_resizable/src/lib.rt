@@ -11,7 +11,10 @@ mod growth;
 mod memory;
 pub mod name_laws;
 pub mod names;
+mod place;
 mod slots;
+pub mod view;
+pub mod view_laws;
 
 pub use errors::ResizableShmAllocationError;
 pub use memory::DynamicMemory;
@@ -19,3 +22,5 @@ pub use names::{
     extract_name_and_segment_id, extract_name_from_management_segment, management_segment_name,
     segment_name,
 };
+pub use place::Place;
+pub use view::DynamicView;
