@@ -7,4 +7,5 @@ mod SlotLemmas
 mod ViewCallLemmas
 mod ViewLawLemmas
 mod ViewLemmas
+mod ViewOpenLemmas
 mod ViewSlotLemmas

@@ -2,12 +2,13 @@
 use Rattle.std.specs.Prelude.{◌≡◌, ℕ, Bool, Option, Some, None, IsSome, is_some, false, List, ◌++◌, length, codes, if◌then◌else◌}
 use Rattle.cal_names.specs.ConceptSettings.{ConceptSettings, file_path_for}
 use Rattle.cal_names.specs.FileName.{IsFileName}
-use Rattle.cal_resizable.specs.SegmentNames.{number_end}
-use Rattle.cal_resizable.specs.Slots.{Handle, Slots, HeldSegment, EachHeld, EachHandle, SparesHandles, segment_at, with_more, with_less, with_segment, without_unused, after_retiring}
-use Rattle.cal_shm.specs.Plan.{SegmentPlan, default_options}
+use Rattle.cal_resizable.specs.SegmentNames.{management_segment_name, number_end}
+use Rattle.cal_resizable.specs.Slots.{Handle, Slots, HeldSegment, EachHeld, EachHandle, SparesHandles, empty_slots, segment_at, with_more, with_less, with_segment, without_unused, after_retiring}
+use Rattle.cal_shm.specs.Plan.{SegmentPlan, path_of, default_options}
 use Rattle.cal_shm.specs.Refusals.{open_refusal}
 use Rattle.cal_shm.specs.Segment.{Segment}
 use Rattle.cal_shm.specs.declared.errors.SharedMemoryOpenError.{SharedMemoryOpenError}
+use Rattle.cal_shm.specs.declared.errors.SharedMemoryOpenError.TheVariants as open_error
 use Rattle.cal_storage.specs.Contents.{Contents, Has, is_id, id_at, found_handle, after_opening}
 use Rattle.cal_storage.specs.Refusals.{is_too_long}
 
@@ -49,6 +50,26 @@ pub record IsView (view : View) : Type 0 where
 abbrev pub segment_plan : View → ℕ → SegmentPlan
 segment_plan view number =
     record { name = view.name ++ number_end number; settings = view.settings; options = default_options }
+
+-- what a builder of views has: the memory's name, and what its configuration holds
+pub record ViewPlan : Type 0 where
+  pub name : List ℕ
+  pub settings : ConceptSettings
+
+-- how the management segment is opened: under its name, at any size
+abbrev pub management_plan : ViewPlan → SegmentPlan
+management_plan plan =
+    record { name = management_name plan.name; settings = plan.settings; options = default_options }
+
+-- a view of which this is the id of the management segment, and that maps no segment yet
+abbrev pub new_view : ViewPlan → ℕ → View
+new_view plan id = record {
+  name = plan.name;
+  settings = plan.settings;
+  management = found_handle (path_of (management_plan plan)) id;
+  current = None;
+  slots = empty_slots 256;
+}
 
 -- the slots without the segment of a number, if one is given, where it isn't counted
 abbrev pub without_unused_of : Slots → Option ℕ → Slots
@@ -126,3 +147,9 @@ module _ {A : Type 0} where
   arrival_refusal checks_version contents view number =
       if is_some (segment_at view.slots number) then None
       else open_refusal checks_version contents (segment_plan view number)
+
+  -- why a view isn't opened: the name of the management segment is no file name, or the segment can't be opened
+  abbrev pub opening_refusal : Bool → Contents (Segment A) → ViewPlan → Option SharedMemoryOpenError
+  opening_refusal checks_version contents plan =
+      if is_some (management_segment_name plan.name) then open_refusal checks_version contents (management_plan plan)
+      else Some open_error.PathTooLong

@@ -6,6 +6,7 @@
 //! the memory's own.
 #![tactic(auto)]
 
+mod closing;
 mod errors;
 mod growth;
 mod memory;
@@ -14,6 +15,7 @@ pub mod names;
 mod place;
 mod slots;
 pub mod view;
+pub mod view_builder;
 pub mod view_laws;
 
 pub use errors::ResizableShmAllocationError;
@@ -24,3 +26,4 @@ pub use names::{
 };
 pub use place::Place;
 pub use view::DynamicView;
+pub use view_builder::DynamicViewBuilder;

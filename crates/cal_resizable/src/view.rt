@@ -2,17 +2,22 @@
 //! was given back.
 //!
 //! Ported from `resizable_shared_memory/dynamic.rs` of iceoryx2-cal 0.9.3.
-ghost use Rattle.std.specs.Prelude.{◌≡◌, ◌≢◌, ℕ, ◌<◌, ◌-◌, ◌^◌, ◌+◌, ◌==◌, Option, Some, None, IsSome, IsSomeAnd, is_some, IfSome, IfOk, IfErr, OnOk, OnErr, List, [], ◌∷◌, slice_range, if◌then◌else◌};
+ghost use Rattle.std.specs.Prelude.{◌≡◌, ◌≢◌, ℕ, ◌<◌, ◌-◌, ◌^◌, ◌+◌, ◌==◌, false, Option, Some, None, IsSome, IsSomeAnd, is_some, IfSome, IfOk, IfErr, OnOk, OnErr, List, [], ◌∷◌, slice_range, if◌then◌else◌};
 ghost use Rattle.std.specs.Result.{result_err};
 ghost use Rattle.cal_alloc.specs.PointerOffset.{offset_of, segment_of};
 ghost use Rattle.cal_shm.specs.Calls.{OfValue, IsInPayload};
 ghost use Rattle.cal_shm.specs.Refusals.{open_refusal};
 ghost use Rattle.cal_storage.specs.Contents.{Has, id_at, found_handle, after_opening};
 ghost use Rattle.cal_storage.specs.Holding.{Holds, KeepsHandles};
+ghost use Rattle.cal_storage.specs.Refusals.{is_too_long};
 ghost use Rattle.cal_storage.specs.Soundness.{IsSound};
-ghost use Rattle.cal_resizable.specs.Slots.{Handle, HeldSegment, AreApart, IsSpared, LeavesHandle, SparesHandles, segment_at, number_held};
-ghost use Rattle.cal_resizable.specs.View.{View, IsView, HasView, segment_plan, segment_path, mapping, after_mapping, registering, SparesOthers, without_unused_of, after_retiring_of, leaving_of, unregistering, view_after_arrival, registry_after_arrival, registry_after_return, arrival_refusal};
+ghost use Rattle.cal_names.specs.ConceptSettings.{file_path_for};
+ghost use Rattle.cal_names.specs.FileName.{IsFileName};
+ghost use Rattle.cal_resizable.specs.Closing.{held_handles, after_closing};
+ghost use Rattle.cal_resizable.specs.Slots.{empty_slots, Handle, HeldSegment, AreApart, IsSpared, LeavesHandle, SparesHandles, segment_at, number_held};
+ghost use Rattle.cal_resizable.specs.View.{View, IsView, HasView, management_name, new_view, segment_plan, segment_path, mapping, after_mapping, registering, SparesOthers, without_unused_of, after_retiring_of, leaving_of, unregistering, view_after_arrival, registry_after_arrival, registry_after_return, arrival_refusal};
 
+use crate::closing::close_all;
 use crate::names::segment_name;
 use crate::place::Place;
 use crate::slots::SegmentSlots;
@@ -63,6 +68,51 @@ impl<A: ShmAllocator, Shm: SharedMemory<A>> Model for DynamicView<A, Shm> {
 }
 
 impl<A: ShmAllocator, Shm: SharedMemory<A>> DynamicView<A, Shm> {
+    /// A view of the memory of this name that maps no segment yet, over its management segment.
+    pub(crate) fn new(
+        name: FileName,
+        config: Shm::Configuration,
+        access_mode: AccessMode,
+        management: Shm,
+        segments: SegmentSlots<A, Shm>,
+    ) -> Self
+        requires managed { IsFileName (management_name name) }
+        requires fits { is_too_long (Shm.Configuration.settings config) (management_name name) ≡ false }
+        requires handle { Shm.handle management ≡ found_handle
+            (file_path_for (Shm.Configuration.settings config) (management_name name)) (Shm.handle management).id }
+        requires empty { segments ≡ empty_slots 256 }
+        ensures view { result ≡ new_view (record { name = name; settings = Shm.Configuration.settings config })
+            (Shm.handle management).id }
+        ensures handle { result.management ≡ Shm.handle management }
+    {
+        let _bytes = name.as_bytes();
+        DynamicView {
+            name,
+            config,
+            access_mode,
+            management,
+            current: None,
+            segments,
+        }
+    }
+
+    /// Closes the management segment, and then each mapped segment in the order of their numbers.
+    pub fn close(self, reg: &mut Registry<AllocatorDetails<A>>)
+        requires there { HasView reg.old self }
+        ensures closed { reg.new ≡ after_closing reg.old (self.management ∷ held_handles self.slots) }
+    {
+        let DynamicView {
+            name: _,
+            config: _,
+            access_mode: _,
+            management,
+            current: _,
+            segments,
+        } = self;
+        management.close(reg);
+        close_all(segments, reg);
+    }
+
     /// An offset has arrived: it is registered in its segment, which is opened first where it isn't mapped. A segment
     /// that is opened becomes the current one, even where its number is smaller, and the former current one is unmapped
     /// where no offset is registered in it. After an error the view and the registry are as before. Takes no memory.
