@@ -1,11 +1,10 @@
 -- That closing the segments one by one closes all of them.
-use Rattle.std.specs.Prelude.{◌≡◌, ◌≢◌, ℕ, ◌+◌, ◌<◌, ◌≤◌, zero, suc, Option, Some, None, IsSome, IsSomeAnd, List, [], ◌∷◌, length}
-use Rattle.std.proofs.Common.{arith, refl, sym, ap, ◌∙◌, subst, inl, inr}
-use Rattle.std.proofs.lemmas.Bool.{cases_eq}
+use Rattle.std.specs.Prelude.{◌≡◌, ◌≢◌, ℕ, ◌<◌, ◌≤◌, zero, suc, Option, Some, None, IsSomeAnd, List, [], ◌∷◌, length}
+use Rattle.std.proofs.Common.{arith, refl, sym, ap, ◌∙◌, subst}
 use Rattle.std.proofs.lemmas.Option.{none-some, same_Some}
 use Rattle.cal_storage.specs.declared.entry.Entry.{Entry}
 use Rattle.cal_storage.specs.Contents.{Contents, Has, entry_of, after_close}
-use Rattle.cal_storage.specs.Holding.{Holds, KeepsOtherHandles}
+use Rattle.cal_storage.specs.Holding.{KeepsOtherHandles}
 use Rattle.std.specs.Option.{option_map}
 use Rattle.cal_resizable.specs.Closing.{held_handles, AreElsewhere, after_closing, CanClose}
 use Rattle.cal_resizable.proofs.ViewLemmas.{view-management, view-AreApart}

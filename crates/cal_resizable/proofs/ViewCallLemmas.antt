@@ -1,7 +1,6 @@
 -- What the calls of a view leave, from what the calls below them do.
-use Rattle.std.specs.Prelude.{◌≡◌, ℕ, ◌<◌, Option, Some, None, IsSomeAnd, length}
+use Rattle.std.specs.Prelude.{◌≡◌, ℕ, ◌<◌, Option, Some, None, IsSomeAnd}
 use Rattle.std.proofs.Common.{refl, sym, ap, ◌∙◌, subst}
-use Rattle.std.proofs.lemmas.Option.{none-some}
 use Rattle.cal_resizable.proofs.ViewLemmas.{opened-there, mapping-HasView, mapping-Spares, unregistering-HasView, unregistering-Spares, SparesHandles-later}
 use Rattle.cal_resizable.proofs.ViewSlotLemmas.{with_more-ComesFrom, mapping-IsView, unregistering-IsView}
 use Rattle.cal_resizable.specs.Slots.{Handle, Slots, HeldSegment, EachHandle, AreApart, IsSpared, LeavesHandle, SparesHandles, segment_at, with_more, with_less, with_segment}

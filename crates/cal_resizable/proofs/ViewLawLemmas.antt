@@ -1,7 +1,7 @@
 -- Laws of views.
-use Rattle.std.specs.Prelude.{◌≡◌, ◌↔◌, ◌⊎◌, ℕ, ◌+◌, ◌<◌, ◌≤◌, ◌==◌, Bool, true, false, not, nat_lt, List, ◌++◌, length, Option, Some, None, IsSome, IsSomeAnd, is_some, codes, if◌then◌else◌}
+use Rattle.std.specs.Prelude.{◌≡◌, ◌↔◌, ◌⊎◌, ℕ, ◌<◌, ◌≤◌, ◌==◌, Bool, true, false, nat_lt, List, ◌++◌, length, Option, Some, None, IsSome, IsSomeAnd, is_some, codes, if◌then◌else◌}
 use Rattle.std.specs.Option.{option_map, option_or}
-use Rattle.std.proofs.Common.{arith, refl, sym, ap, ◌∙◌, subst, inl, inr, length-append}
+use Rattle.std.proofs.Common.{arith, refl, ap, ◌∙◌, subst, inl, inr, length-append}
 use Rattle.std.proofs.lemmas.Bool.{cases_lt}
 use Rattle.std.proofs.lemmas.Bool.Decides.{nat_tests}
 use Rattle.cal_names.specs.ConceptSettings.{ConceptSettings, file_name_for, type_part}
@@ -12,9 +12,7 @@ use Rattle.cal_resizable.specs.Slots.{HeldSegment, segment_at}
 use Rattle.cal_resizable.specs.View.{View, IsView, management_name, segment_path, segment_plan, arrival_refusal}
 use Rattle.cal_shm.specs.Refusals.{opening_error, size_refusal, open_refusal}
 use Rattle.cal_shm.specs.Segment.{Segment}
-use Rattle.cal_shm.specs.declared.errors.SharedMemoryOpenError.{SharedMemoryOpenError}
 use Rattle.cal_shm.specs.declared.errors.SharedMemoryOpenError.TheVariants as open_error
-use Rattle.cal_storage.specs.declared.dynamic_storage.errors.DynamicStorageOpenError.{DynamicStorageOpenError}
 use Rattle.cal_storage.specs.declared.dynamic_storage.errors.DynamicStorageOpenError.TheVariants as storage
 use Rattle.cal_storage.specs.declared.entry.Entry.{Entry}
 use Rattle.cal_storage.specs.Contents.{Contents, entry_at}

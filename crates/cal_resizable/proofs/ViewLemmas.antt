@@ -1,25 +1,18 @@
 -- What the registry of a view keeps over its calls.
-use Rattle.std.specs.Prelude.{◌≡◌, ◌≢◌, ℕ, ◌+◌, ◌-◌, ◌<◌, ◌≤◌, ◌^◌, ◌==◌, ◌⊎◌, Bool, true, false, List, [], ◌∷◌, ◌++◌, length, Option, Some, None, IsSome, IsSomeAnd, codes, slice_set, if◌then◌else◌}
-use Rattle.std.proofs.Common.{arith, refl, sym, ap, ◌∙◌, subst, inl, inr, true≢false, eq-eqb}
-use Rattle.std.proofs.lemmas.Bool.{cases_Bool, cases_eq, cases_lt, eqb-true}
-use Rattle.std.proofs.lemmas.List.{append_cancel_left, append_cancel_right, length-set, get_or-set_same, get_or-set_other, get_or_past}
-use Rattle.std.proofs.lemmas.Option.{none-some, same_Some}
-use Rattle.cal_names.specs.ConceptSettings.{ConceptSettings, file_name_for, file_path_for, type_part}
-use Rattle.cal_names.specs.FileName.{IsFileName}
-use Rattle.cal_names.specs.FilePath.{separator}
-use Rattle.cal_resizable.specs.SegmentNameLemmas.{number_end-injective, segment_of_name-again, segment_of_name-management}
-use Rattle.cal_resizable.specs.SegmentNames.{number_end, segment_of_name}
+use Rattle.std.specs.Prelude.{◌≡◌, ◌≢◌, ℕ, ◌<◌, ◌⊎◌, length, Option, Some, None, IsSome, IsSomeAnd}
+use Rattle.std.proofs.Common.{arith, refl, sym, ap, ◌∙◌, subst, inl, inr}
+use Rattle.std.proofs.lemmas.List.{length-set, get_or-set_same, get_or-set_other}
+use Rattle.std.proofs.lemmas.Option.{same_Some}
 use Rattle.cal_resizable.proofs.LeavingLemmas.{LeavesHandle-same, SparesHandles-leaves, SparesHandles-after}
-use Rattle.cal_resizable.specs.Slots.{Handle, Slots, HeldSegment, EachHeld, EachHandle, IsHeldId, AreApart, IsSpared, LeavesHandle, SparesHandles, segment_at, count_in, count_at, counted_more, counted_less, with_more, with_less, with_segment, without_segment, without_unused}
-use Rattle.cal_resizable.specs.View.{View, IsView, HasView, management_name, management_path, segment_path, with_found, without_unused_of, leaving_of, mapping, registering, unregistering}
+use Rattle.cal_resizable.specs.Slots.{Handle, Slots, HeldSegment, EachHandle, IsHeldId, AreApart, IsSpared, LeavesHandle, SparesHandles, segment_at, counted_less, with_more, with_less}
+use Rattle.cal_resizable.specs.View.{View, IsView, HasView, segment_path, with_found, without_unused_of, leaving_of, mapping, registering, unregistering}
 use Rattle.cal_storage.specs.declared.entry.Entry.{Entry}
-use Rattle.cal_storage.specs.Contents.{Contents, Has, id_at, entry_of, found_handle, after_opening, is_id}
+use Rattle.cal_storage.specs.Contents.{Contents, Has, id_at, entry_of, found_handle, after_opening}
 use Rattle.cal_storage.specs.ContentsLaws.{one_holder_more}
 use Rattle.cal_storage.specs.EntryLemmas.{after_opening-ChangesEntry}
 use Rattle.cal_storage.specs.HandleLemmas.{Has-ChangesEntry}
 use Rattle.cal_storage.specs.HoldingLemmas.{KeepsHandles-after_opening, after_opening-Holds}
 use Rattle.cal_storage.specs.Soundness.{IsSound}
-use Rattle.cal_storage.specs.SoundnessLemmas.{is_id-true, is_id-same}
 use Rattle.cal_resizable.proofs.ViewSlotLemmas.{ComesFrom, no_segment, HasPaths, HasPaths-view, HasPaths-from, path_in, held-within, is_some-within, with_more-ComesFrom, with_less-ComesFrom, segment_path-apart, management_path-apart, retired-lookup, fresh, both-length, both-lookup, mapped-here, retired-is, less-retired-within}
 
 -- ---- the registry has the entries

@@ -1,5 +1,5 @@
 -- What it means that a memory or a view closes.
-use Rattle.std.specs.Prelude.{◌≡◌, ◌≢◌, ℕ, Option, Some, None, List, [], ◌∷◌, ⊤}
+use Rattle.std.specs.Prelude.{◌≢◌, Some, None, List, [], ◌∷◌, ⊤}
 use Rattle.cal_storage.specs.Contents.{Contents, Has, after_close}
 use Rattle.cal_resizable.specs.Slots.{Handle, Slots}
 

@@ -3,7 +3,7 @@ use Rattle.std.specs.Prelude.{◌≡◌, ℕ, Bool, Option, Some, None, IsSome, 
 use Rattle.cal_names.specs.ConceptSettings.{ConceptSettings, file_path_for}
 use Rattle.cal_names.specs.FileName.{IsFileName}
 use Rattle.cal_resizable.specs.SegmentNames.{management_segment_name, number_end}
-use Rattle.cal_resizable.specs.Slots.{Handle, Slots, HeldSegment, EachHeld, EachHandle, SparesHandles, empty_slots, segment_at, with_more, with_less, with_segment, without_unused, after_retiring}
+use Rattle.cal_resizable.specs.Slots.{Handle, Slots, EachHeld, EachHandle, SparesHandles, empty_slots, segment_at, with_more, with_less, with_segment, without_unused, after_retiring}
 use Rattle.cal_shm.specs.Plan.{SegmentPlan, path_of, default_options}
 use Rattle.cal_shm.specs.Refusals.{open_refusal}
 use Rattle.cal_shm.specs.Segment.{Segment}
