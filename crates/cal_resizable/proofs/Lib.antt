@@ -1,7 +1,13 @@
 mod AllocationLemmas
+mod ClosingLemmas
 pub mod CutLemmas
 mod GrowthLemmas
 mod KeepingLemmas
 mod LeavingLemmas
 mod MemoryLemmas
 mod SlotLemmas
+mod ViewCallLemmas
+mod ViewLawLemmas
+mod ViewLemmas
+mod ViewOpenLemmas
+mod ViewSlotLemmas

@@ -14,7 +14,8 @@ use Rattle.cal_storage.specs.Contents.{Contents, after_creation, new_handle}
 use Rattle.cal_storage.specs.Refusals.{finished_version}
 use Rattle.cal_shm.specs.Calls.{OfValue, ChangesAllocator}
 use Rattle.cal_shm.specs.Plan.{SegmentPlan}
-use Rattle.cal_shm.specs.Refusals.{memory_alignment, create_refusal}
+use Rattle.cal_alloc.specs.Limits.{max_memory_alignment}
+use Rattle.cal_shm.specs.Refusals.{create_refusal}
 use Rattle.cal_shm.specs.Segment.{Segment, new_segment}
 use Rattle.cal_shm.specs.declared.errors.SharedMemoryCreateError.{SharedMemoryCreateError}
 use Rattle.cal_resizable.specs.Memory.{MemoryState, segment_path}
@@ -78,7 +79,7 @@ module _ {A C : Type 0} (rules : allocator.Ghosts A C) where
 
   -- the allocator of a new segment
   abbrev pub new_allocator : SharedMemorySetupHint C → A
-  new_allocator hint = rules.new_uninit memory_alignment hint.payload_size hint.config
+  new_allocator hint = rules.new_uninit max_memory_alignment hint.payload_size hint.config
 
   -- the plan of the segment of a name
   abbrev pub segment_plan : ConceptSettings → List ℕ → SharedMemorySetupHint C → SegmentPlan

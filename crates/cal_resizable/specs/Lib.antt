@@ -1,5 +1,7 @@
+pub mod Closing
 pub mod Growth
 pub mod Memory
 pub mod SegmentNameLemmas
 pub mod SegmentNames
 pub mod Slots
+pub mod View

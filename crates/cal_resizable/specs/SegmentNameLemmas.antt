@@ -1,6 +1,5 @@
 -- That the names of segments and what is extracted from them belong together.
-use Rattle.std.specs.Prelude.{◌≡◌, ◌≢◌, ℕ, ◌+◌, ◌-◌, ◌*◌, ◌/◌, ◌%◌, ◌<◌, ◌≤◌, ◌^◌, ◌↔◌, Bool, true, false, ◌&&◌, ◌==◌, nat_lt, List, [], ◌∷◌, ◌++◌, length, Option, Some, None, IsSome, codes, ⊤, if◌then◌else◌}
-use Rattle.std.specs.Bool.{Decides}
+use Rattle.std.specs.Prelude.{◌≡◌, ℕ, ◌+◌, ◌-◌, ◌*◌, ◌/◌, ◌%◌, ◌<◌, ◌≤◌, ◌↔◌, Bool, true, false, ◌&&◌, ◌==◌, nat_lt, List, [], ◌∷◌, ◌++◌, length, Option, Some, None, codes, ⊤, if◌then◌else◌}
 use Rattle.std.specs.Char.{is_ascii_digit}
 use Rattle.std.specs.Fmt.{decimal}
 use Rattle.std.specs.List.{AllPass, list_all}
@@ -13,8 +12,8 @@ use Rattle.std.proofs.lemmas.List.Sums.{AllPass-from_list_all}
 use Rattle.std.proofs.lemmas.Option.{none-some}
 use Rattle.cal_names.specs.ConceptSettings.{ConceptSettings}
 use Rattle.cal_names.specs.Extraction.{extracted_name-exact}
-use Rattle.cal_names.specs.FileName.{IsFileName, is_file_name_byte, as_file_name, as_file_name_yes, as_file_name-joined, is_file_name-decides}
-use Rattle.cal_resizable.specs.SegmentNames.{management_segment_name, number_end, segment_name, managed_name, Cut, with_front, cut_at_start, cut_at_last, number_of_three, number_of, segment_of_cut, segment_of_name}
+use Rattle.cal_names.specs.FileName.{IsFileName, is_file_name_byte, as_file_name, as_file_name_yes, as_file_name-joined}
+use Rattle.cal_resizable.specs.SegmentNames.{number_end, segment_name, managed_name, with_front, cut_at_start, cut_at_last, number_of_three, number_of, segment_of_cut, segment_of_name}
 
 -- ---- the management segment
 
@@ -207,7 +206,7 @@ number_end-bytes = by_digits (λ _ ds. AllPass is_file_name_byte (codes "__" ++ 
     last : (x : ℕ) → x < 10 → list_all is_file_name_byte ((48 + x) ∷ []) ≡ true
     last x small = ap (λ t. t && true) (digit-byte x small)
 
-number_end-length : (n : ℕ) → n < 256 → length (number_end n) ≤ 5
+pub number_end-length : (n : ℕ) → n < 256 → length (number_end n) ≤ 5
 number_end-length = by_digits (λ _ ds. length (codes "__" ++ ds) ≤ 5)
     (λ n low. omega arith) (λ n ten low. omega arith) (λ n hundred low. omega arith)
 

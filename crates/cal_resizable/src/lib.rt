@@ -6,12 +6,17 @@
 //! the memory's own.
 #![tactic(auto)]
 
+mod closing;
 mod errors;
 mod growth;
 mod memory;
 pub mod name_laws;
 pub mod names;
+mod place;
 mod slots;
+pub mod view;
+pub mod view_builder;
+pub mod view_laws;
 
 pub use errors::ResizableShmAllocationError;
 pub use memory::DynamicMemory;
@@ -19,3 +24,6 @@ pub use names::{
     extract_name_and_segment_id, extract_name_from_management_segment, management_segment_name,
     segment_name,
 };
+pub use place::Place;
+pub use view::DynamicView;
+pub use view_builder::DynamicViewBuilder;

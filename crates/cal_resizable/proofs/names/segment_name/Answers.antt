@@ -1,5 +1,5 @@
 -- The digits that are joined are those of the number in decimal.
-use Rattle.std.proofs.Common.{ℕ, ◌++◌, ◌+◌, ◌/◌, ◌%◌, ◌∙◌, List, [], ◌∷◌, arith, ap, sym}
+use Rattle.std.proofs.Common.{◌++◌, ◌∙◌, arith, ap, sym}
 use Rattle.std.specs.Prelude.{codes}
 use Rattle.cal_names.specs.FileName.{as_file_name}
 use Rattle.cal_resizable.specs.SegmentNames.{segment_name}
