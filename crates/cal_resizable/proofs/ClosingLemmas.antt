@@ -9,6 +9,7 @@ use Rattle.std.specs.Option.{option_map}
 use Rattle.cal_resizable.specs.Closing.{held_handles, AreElsewhere, after_closing, CanClose}
 use Rattle.cal_resizable.proofs.ViewLemmas.{view-management, view-AreApart}
 use Rattle.cal_resizable.proofs.ViewSlotLemmas.{HasPaths, HasPaths-view}
+use Rattle.cal_resizable.specs.Memory.{MemoryState, IsSoundMemory, HasAll}
 use Rattle.cal_resizable.specs.View.{View, IsView, HasView}
 use Rattle.cal_resizable.specs.Slots.{Handle, Slots, HeldSegment, EachHeld, AreApart, segment_at, without_segment}
 
@@ -94,7 +95,7 @@ pub closing-ended : {T : Type 0} (contents now : Contents T) (before slots : Slo
 closing-ended contents now before slots n same gone all =
     ap (after_closing now) (sym (none-held slots (λ k within. gone k (omega (arith, within, all))))) ∙ same
 
--- ---- a view closes
+-- ---- a memory or a view closes
 
 elsewhere : (slots : Slots) (handle : Handle) →
     ((n : ℕ) (other : HeldSegment) → segment_at slots n ≡ Some other → other.handle.id ≢ handle.id) →
@@ -118,7 +119,18 @@ CanClose-apart contents (Some held ∷ slots) has apart = (
       (λ same. differ (omega (arith, same)))),
 )
 
--- after the management segment has closed, the others can
+-- after a memory's management segment has closed, the others can
+pub closing-memory : {T : Type 0} (contents new : Contents T) (memory whole : MemoryState) → memory ≡ whole →
+    IsSoundMemory memory → HasAll contents whole → KeepsOtherHandles contents new memory.management.id →
+    CanClose new (held_handles memory.slots)
+closing-memory contents new memory whole same sound has_whole keeps =
+    let has : HasAll contents memory = subst (HasAll contents) (sym same) has_whole in
+    CanClose-rest contents new memory.management keeps (held_handles memory.slots)
+    (elsewhere memory.slots memory.management (λ n other there.
+    let active = sound.active n other there in active.apart))
+    (CanClose-apart contents memory.slots has.of_segments sound.apart)
+
+-- after the management segment of a view has closed, the others can
 pub closing-view : {T : Type 0} (contents new : Contents T) (view whole : View) → view ≡ whole → IsView view →
     HasView contents whole → KeepsOtherHandles contents new view.management.id → CanClose new (held_handles view.slots)
 closing-view contents new view whole same is has_whole keeps =

@@ -1,5 +1,7 @@
 mod AllocationLemmas
+mod ChunkLemmas
 mod ClosingLemmas
+mod CreationLemmas
 pub mod CutLemmas
 mod GrowthLemmas
 mod KeepingLemmas

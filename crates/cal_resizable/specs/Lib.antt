@@ -1,4 +1,5 @@
 pub mod Closing
+pub mod Creation
 pub mod Growth
 pub mod Memory
 pub mod SegmentNameLemmas

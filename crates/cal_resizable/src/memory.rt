@@ -1,16 +1,19 @@
 //! Growing memory. Ported from `resizable_shared_memory/dynamic.rs` of iceoryx2-cal 0.9.3.
-ghost use Rattle.std.specs.Prelude.{◌≡◌, ◌≢◌, ◌==◌, if◌then◌else◌, ◌<◌, ◌^◌, ◌+◌, ◌-◌, ◌++◌, ◌⊎◌, ℕ, Some, None, IsSome, IsSomeAnd, IfSome, IfOk, IfErr, OnOk, OnErr, slice_range};
+ghost use Rattle.std.specs.Prelude.{◌≡◌, ◌≢◌, ◌==◌, if◌then◌else◌, ◌<◌, ◌^◌, ◌+◌, ◌-◌, ◌++◌, ◌⊎◌, ◌≤◌, ◌∷◌, ℕ, Some, None, IsSome, IsSomeAnd, IfSome, IfOk, IfErr, OnOk, OnErr, slice_range};
 ghost use Rattle.std.specs.Result.{result_err};
 ghost use Rattle.cal_alloc.specs.PointerOffset.{pointer_offset, offset_of, segment_of};
 ghost use Rattle.cal_alloc.specs.Pool.{IsUsedBucket, FreesBucket};
 ghost use Rattle.cal_storage.specs.Contents.{Has};
 ghost use Rattle.cal_storage.specs.declared.handle.Handle.{Handle};
-ghost use Rattle.cal_shm.specs.Calls.{IsInPayload};
+ghost use Rattle.cal_shm.specs.Calls.{IsInPayload, IsChunkWithin};
+ghost use Rattle.cal_resizable.specs.Closing.{held_handles, after_closing};
+ghost use Rattle.cal_resizable.specs.Creation.{first_memory};
 ghost use Rattle.cal_resizable.specs.Growth.{OfSegment, AllocatesHere, Allocates, TakesBack, growth_plan, allocation_refusal, segment_plan, segment_refusal, made_segment, grown_contents, grown_memory};
-ghost use Rattle.cal_resizable.specs.Memory.{HasAll, KeepsOwn};
+ghost use Rattle.cal_resizable.specs.Memory.{IsSoundMemory, HasAll, KeepsOwn};
 ghost use Rattle.cal_resizable.specs.SegmentNames.{number_end};
 ghost use Rattle.cal_resizable.specs.Slots.{segment_at, count_at, number_held, with_less, without_unused, after_retiring, AreApart, IsSpared, LeavesHandle, SparesHandles};
 
+use crate::closing::close_all;
 use crate::errors::ResizableShmAllocationError;
 use crate::growth::{make_segment, plan_growth};
 use crate::names::segment_name;
@@ -79,16 +82,60 @@ impl<A: ShmAllocator, Shm: SharedMemory<A>> NamedConcept for DynamicMemory<A, Sh
 }
 
 impl<A: ShmAllocator, Shm: SharedMemory<A>> DynamicMemory<A, Shm> {
-    /// The number of segments that are active.
+    /// A new memory over its management segment and its slots, of which the first holds segment 0.
+    pub(crate) fn new(
+        name: FileName,
+        config: Shm::Configuration,
+        strategy: AllocationStrategy,
+        management: Shm,
+        slots: SegmentSlots<A, Shm>,
+    ) -> Self
+        requires sound { IsSoundMemory (first_memory name (Shm.Configuration.settings config) strategy
+            (Shm.handle management) slots) }
+        ensures memory { result ≡ first_memory name (Shm.Configuration.settings config) strategy
+            (Shm.handle management) slots }
+    {
+        DynamicMemory {
+            name,
+            config,
+            strategy,
+            management,
+            slots,
+            current: 0,
+        }
+    }
+
+    /// Closes the management segment and then each active segment, in the order of their numbers, as their owner: the
+    /// names go, and a segment is dropped where no view holds it.
+    pub fn close(self, reg: &mut Registry<AllocatorDetails<A>>)
+        requires has { HasAll reg.old self }
+        ensures closed { reg.new ≡ after_closing reg.old (self.management ∷ held_handles self.slots) }
+    {
+        let DynamicMemory {
+            name: _,
+            config: _,
+            strategy: _,
+            management,
+            slots,
+            current: _,
+        } = self;
+        management.close(reg);
+        close_all(slots, reg);
+    }
+
+    /// The number of segments that are active: the current one, and those with a chunk.
     pub fn number_of_active_segments(&self) -> usize
         ensures active { result ≡ number_held self.now.slots }
+        ensures sound { IsSoundMemory self.now }
     {
+        let _current = self.current;
         self.slots.len()
     }
 
-    /// The number of the current segment.
+    /// The number of the current segment, which is active.
     pub fn current_segment(&self) -> SegmentId
         ensures current { result ≡ self.now.current }
+        ensures active { IsSome (segment_at self.now.slots result) }
     {
         SegmentId::new(self.current)
     }
@@ -129,6 +176,12 @@ impl<A: ShmAllocator, Shm: SharedMemory<A>> DynamicMemory<A, Shm> {
             (λ segment. result_err result ≡ A.refusal segment.allocator layout) }
         ensures given { IfOk result (λ pointer.
             AllocatesHere A.ShmAllocator.own reg.old self.old layout pointer.offset reg.new self.new) }
+        ensures out { IfOk result (λ pointer. OfSegment reg.new self.new.slots (segment_of pointer.offset)
+            (λ segment. A.IsAllocated segment.allocator (pointer_offset (offset_of pointer.offset) 0))) }
+        ensures within { IfOk result (λ pointer. OfSegment reg.new self.new.slots (segment_of pointer.offset)
+            (λ segment. IsChunkWithin A.properties segment layout pointer.offset)) }
+        ensures counted { OnOk result
+            (count_at self.new.slots self.new.current ≤ count_at self.old.slots self.old.current + 1) }
         ensures own { KeepsOwn reg.old self.old reg.new self.new }
         ensures leaves { (handle : Handle) → LeavesHandle reg.old reg.new handle }
         ensures unchanged { OnErr result (reg.new ≡ reg.old) }
@@ -215,8 +268,8 @@ impl<A: ShmAllocator, Shm: SharedMemory<A>> DynamicMemory<A, Shm> {
     }
 
     /// Hands out a chunk of that layout: of the current segment, or where that can't serve it and growth may help, of
-    /// the next one, which is made then. The offset carries the number of the segment. After an error the memory and
-    /// the registry are as before. Memory is taken by growth alone.
+    /// the next one, which is made then. The offset carries the number of the segment, and the chunk lies within that
+    /// segment's payload. After an error the memory and the registry are as before. Memory is taken by growth alone.
     pub fn allocate(
         &mut self,
         alloc: Global,
@@ -233,6 +286,12 @@ impl<A: ShmAllocator, Shm: SharedMemory<A>> DynamicMemory<A, Shm> {
             ⊎ (error ≡ ResizableShmAllocationError.SharedMemoryCreateError SharedMemoryCreateError.NoMemory))) }
         ensures allocated { IfOk result (λ pointer.
             Allocates A.ShmAllocator.own reg.old self.old layout pointer.offset reg.new self.new) }
+        ensures out { IfOk result (λ pointer. OfSegment reg.new self.new.slots (segment_of pointer.offset)
+            (λ segment. A.IsAllocated segment.allocator (pointer_offset (offset_of pointer.offset) 0))) }
+        ensures within { IfOk result (λ pointer. OfSegment reg.new self.new.slots (segment_of pointer.offset)
+            (λ segment. IsChunkWithin A.properties segment layout pointer.offset)) }
+        ensures counted { OnOk result
+            (count_at self.new.slots self.new.current ≤ count_at self.old.slots self.old.current + 1) }
         ensures own { OnOk result (KeepsOwn reg.old self.old reg.new self.new) }
         ensures spares { OnOk result (SparesHandles reg.old reg.new self.old.slots self.new.slots) }
         ensures unchanged { OnErr result (reg.new ≡ reg.old) }

@@ -1,0 +1,141 @@
+-- What is known of a memory that was just made.
+use Rattle.std.proofs.Common.{◌≡◌, ◌≢◌, ℕ, Bool, true, false, not, ◌==◌, if◌then◌else◌, Option, Some, None, Result, Ok, Err, IfSome, List, ◌++◌, codes, length, refl, sym, ap, ◌∙◌, subst, arith}
+use Rattle.std.specs.Option.{option_or}
+use Rattle.std.proofs.lemmas.List.{length-set}
+use Rattle.std.proofs.lemmas.Option.{none-some, same_Some}
+use Rattle.cal_alloc.specs.declared.allocation_strategy.AllocationStrategy.{AllocationStrategy}
+use Rattle.cal_names.specs.ConceptSettings.{ConceptSettings}
+use Rattle.cal_names.specs.FileName.{IsFileName}
+use Rattle.cal_storage.specs.Contents.{Contents, Has, id_at, after_creation, after_close, new_handle}
+use Rattle.cal_storage.specs.ContentsLaws.{KeepsEntries}
+use Rattle.cal_storage.specs.Holding.{Holds, IsNamed, KeepsHandles}
+use Rattle.cal_storage.specs.HoldingLemmas.{KeepsHandles-after_creation}
+use Rattle.cal_storage.specs.Refusals.{is_too_long}
+use Rattle.cal_storage.specs.ValueLemmas.{after_close-after_creation}
+use Rattle.cal_shm.specs.Plan.{SegmentPlan}
+use Rattle.cal_shm.specs.Refusals.{create_refusal, name_refusal, alignment_refusal}
+use Rattle.cal_shm.specs.Segment.{Segment}
+use Rattle.cal_shm.specs.declared.errors.SharedMemoryCreateError.TheVariants as create
+use Rattle.cal_resizable.specs.Creation.{first_memory}
+use Rattle.cal_resizable.specs.Memory.{MemoryState, IsSoundMemory, IsActive, segment_path, management_path}
+use Rattle.cal_resizable.specs.Slots.{Handle, Slots, HeldSegment, empty_slots, segment_at, with_segment, count_in, count_at, AreApart, EachHeld, EachHandle, LeavesHandle}
+use Rattle.cal_resizable.proofs.GrowthLemmas.{not_new, leaves_created}
+use Rattle.cal_resizable.proofs.MemoryLemmas.{is_some-from}
+use Rattle.cal_resizable.proofs.SlotLemmas.{length-replicate, segment_at-empty, segment_at-set-same, EachHeld-set}
+
+-- ---- refusals
+
+pub none-refused : {E X : Type 0} (refusal : Option E) (x : X) → IfSome refusal (λ error. Ok x ≡ Err error) →
+    refusal ≡ None
+none-refused None x same = refl
+none-refused (Some error) x same = absurd (cc)
+
+if_none : {E : Type 0} (test : Bool) (e : E) (rest : Option E) → (if test then Some e else rest) ≡ None →
+    (test ≡ false) × (rest ≡ None)
+if_none true e rest is = absurd (none-some e (sym is))
+if_none false e rest is = (refl, is)
+
+or_none : {E : Type 0} (first rest : Option E) → option_or first rest ≡ None → (first ≡ None) × (rest ≡ None)
+or_none None rest is = (refl, is)
+or_none (Some e) rest is = absurd (none-some e (sym is))
+
+pub then_refused : {E : Type 0} (first rest second : Option E) → first ≡ None → rest ≡ second →
+    option_or first rest ≡ second
+then_refused first rest second none is = ap (λ o. option_or o rest) none ∙ is
+
+pub first_refused : {E : Type 0} (first rest : Option E) (e : E) → first ≡ Some e → option_or first rest ≡ Some e
+first_refused first rest e is = ap (λ o. option_or o rest) is
+
+-- what is made has a path that fits
+pub created-fits : {A : Type 0} (fits : Bool) (max_alignment : ℕ) (contents : Contents (Segment A))
+    (plan : SegmentPlan) → create_refusal fits max_alignment contents plan ≡ None →
+    is_too_long plan.settings plan.name ≡ false
+created-fits fits max_alignment contents plan none =
+    let sized = if_none (plan.options.size == 0) create.SizeIsZero _ none in
+    let fitting = if_none (not fits) create.SizeOutOfRange _ sized.1 in
+    let named = or_none (name_refusal contents plan.settings plan.name) (alignment_refusal max_alignment) fitting.1 in
+    let short = if_none (is_too_long plan.settings plan.name) create.PathTooLong _ named.0 in
+    short.0
+
+-- ---- the memory over its first segment
+
+module _ (management first : Handle) (slots : Slots) (slots_is : slots ≡ with_segment (empty_slots 256) 0 first) where
+  abbrev first_held : HeldSegment
+  first_held = record { handle = first; count = 0 }
+
+  each_first : (fact : ℕ → HeldSegment → Type 0) → fact 0 first_held → EachHeld slots fact
+  each_first fact here = subst (λ s. EachHeld s fact) (sym slots_is)
+      (EachHeld-set (empty_slots 256) 0 (Some first_held) fact
+      (omega (arith, length-replicate {X = Option HeldSegment} 256 None))
+      (λ held is. subst (fact 0) (same_Some _ held is) here)
+      (λ other held apart at. absurd (none-some held (sym (segment_at-empty 256 other) ∙ at))))
+
+  first_at : segment_at slots 0 ≡ Some first_held
+  first_at = ap (λ s. segment_at s 0) slots_is
+      ∙ segment_at-set-same (empty_slots 256) 0 (Some first_held)
+      (omega (arith, length-replicate {X = Option HeldSegment} 256 None))
+
+  only_first : (number : ℕ) (held : HeldSegment) → segment_at slots number ≡ Some held → number ≡ 0
+  only_first = each_first (λ number held. number ≡ 0) refl
+
+  pub first_empty : count_at slots 0 ≡ 0
+  first_empty = ap count_in first_at
+
+  pub EachHandle-first : (fact : Handle → Type 0) → fact management → fact first → EachHandle management slots fact
+  EachHandle-first fact managed here =
+      record { of_management = managed; of_segments = each_first (λ number held. fact held.handle) here }
+
+  pub IsSoundMemory-first : (name : List ℕ) (settings : ConceptSettings) (strategy : AllocationStrategy) →
+      IsFileName (name ++ codes "__mgmt") → is_too_long settings (name ++ codes "__mgmt") ≡ false →
+      management.is_owner ≡ true → management.path ≡ management_path settings name → first.is_owner ≡ true →
+      first.path ≡ segment_path settings name 0 → first.id ≢ management.id →
+      IsSoundMemory (first_memory name settings strategy management slots)
+  IsSoundMemory-first name settings strategy rule fits owner path first_owner first_path apart = record {
+    places = ap length slots_is ∙ length-set (empty_slots 256) 0 (Some first_held)
+        ∙ length-replicate {X = Option HeldSegment} 256 None;
+    below = omega arith;
+    current = is_some-from (segment_at slots 0) first_held first_at;
+    active = each_first (IsActive settings name management.id 0) (record {
+      not_later = omega arith;
+      used = λ differ. absurd (differ refl);
+      owner = first_owner;
+      path = first_path;
+      apart = apart;
+    });
+    apart = λ one other held also differ at_one at_other.
+        absurd (differ (only_first one held at_one ∙ sym (only_first other also at_other)));
+    owner = owner;
+    path = path;
+    name = rule;
+    fits = fits;
+  }
+
+-- ---- the registry over both creations
+
+module _ {T : Type 0} (old mid new : Contents T) (path : List ℕ) (value : T) (version : ℕ)
+    (free : id_at old path ≡ None) (made : mid ≡ after_creation old path value version) (management : Handle)
+    (management_is : management ≡ new_handle old path true) where
+  -- what was made is taken back
+  pub taken_back : new ≡ after_close mid management → KeepsEntries old new
+  taken_back closed =
+      subst (KeepsEntries old)
+      (sym (closed ∙ ap (λ m. after_close m management) made
+      ∙ ap (after_close (after_creation old path value version)) management_is))
+      (after_close-after_creation old path value version free)
+
+  module _ (other : List ℕ) (second : T) (other_version : ℕ) (other_free : id_at mid other ≡ None)
+      (also_made : new ≡ after_creation mid other second other_version) where
+    pub left_by_second : (handle : Handle) → LeavesHandle mid new handle
+    left_by_second = leaves_created mid new other second other_version other_free also_made
+
+    pub KeepsHandles-both : KeepsHandles old new
+    KeepsHandles-both count handle some small holds =
+        subst (λ contents. Holds contents count handle) (sym also_made)
+        (KeepsHandles-after_creation mid other second other_version count handle some small
+        (subst (λ contents. Holds contents count handle) (sym made)
+        (KeepsHandles-after_creation old path value version count handle some small holds)))
+
+    pub ids_apart : (first : Handle) → first ≡ new_handle mid other true → Has mid management →
+        first.id ≢ management.id
+    ids_apart first is has same =
+        not_new mid management has (sym same ∙ ap (λ (h : Handle). h.id) is)
