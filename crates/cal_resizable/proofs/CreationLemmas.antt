@@ -1,22 +1,27 @@
 -- What is known of a memory that was just made.
-use Rattle.std.proofs.Common.{◌≡◌, ◌≢◌, ℕ, Bool, true, false, not, ◌==◌, if◌then◌else◌, Option, Some, None, Result, Ok, Err, IfSome, List, ◌++◌, codes, length, refl, sym, ap, ◌∙◌, subst, arith}
+use Rattle.std.proofs.Common.{◌≡◌, ◌≢◌, ℕ, Bool, true, false, not, ◌==◌, if◌then◌else◌, Option, Some, None, Result, Ok, Err, IfOk, IfSome, List, ◌++◌, codes, length, refl, sym, ap, ◌∙◌, subst, arith}
 use Rattle.std.specs.Option.{option_or}
 use Rattle.std.proofs.lemmas.List.{length-set}
 use Rattle.std.proofs.lemmas.Option.{none-some, same_Some}
 use Rattle.cal_alloc.specs.declared.allocation_strategy.AllocationStrategy.{AllocationStrategy}
-use Rattle.cal_names.specs.ConceptSettings.{ConceptSettings}
+use Rattle.cal_alloc.specs.declared.shm_allocator.SharedMemorySetupHint.{SharedMemorySetupHint}
+use Rattle.cal_alloc.specs.declared.shm_allocator.ShmAllocator as allocator
+use Rattle.cal_names.specs.ConceptSettings.{ConceptSettings, file_path_for}
 use Rattle.cal_names.specs.FileName.{IsFileName}
 use Rattle.cal_storage.specs.Contents.{Contents, Has, id_at, after_creation, after_close, new_handle}
 use Rattle.cal_storage.specs.ContentsLaws.{KeepsEntries}
 use Rattle.cal_storage.specs.Holding.{Holds, IsNamed, KeepsHandles}
 use Rattle.cal_storage.specs.HoldingLemmas.{KeepsHandles-after_creation}
-use Rattle.cal_storage.specs.Refusals.{is_too_long}
+use Rattle.cal_storage.specs.Refusals.{finished_version, is_too_long}
 use Rattle.cal_storage.specs.ValueLemmas.{after_close-after_creation}
 use Rattle.cal_shm.specs.Plan.{SegmentPlan}
 use Rattle.cal_shm.specs.Refusals.{create_refusal, name_refusal, alignment_refusal}
 use Rattle.cal_shm.specs.Segment.{Segment}
+use Rattle.cal_shm.specs.declared.errors.SharedMemoryCreateError.{SharedMemoryCreateError}
 use Rattle.cal_shm.specs.declared.errors.SharedMemoryCreateError.TheVariants as create
-use Rattle.cal_resizable.specs.Creation.{first_memory}
+use Rattle.cal_resizable.specs.Creation.{MemoryPlan, MakesMemory, CreatesMemory, one_byte, first_memory, memory_of, management_handle, first_handle, managed_contents, first_contents, management_refusal, first_refusal, segments_refusal}
+use Rattle.cal_resizable.specs.Growth.{segment_plan, segment_refusal, made_segment}
+use Rattle.cal_resizable.specs.SegmentNames.{number_end}
 use Rattle.cal_resizable.specs.Memory.{MemoryState, IsSoundMemory, IsActive, segment_path, management_path}
 use Rattle.cal_resizable.specs.Slots.{Handle, Slots, HeldSegment, empty_slots, segment_at, with_segment, count_in, count_at, AreApart, EachHeld, EachHandle, LeavesHandle}
 use Rattle.cal_resizable.proofs.GrowthLemmas.{not_new, leaves_created}
@@ -42,9 +47,6 @@ or_none (Some e) rest is = absurd (none-some e (sym is))
 pub then_refused : {E : Type 0} (first rest second : Option E) → first ≡ None → rest ≡ second →
     option_or first rest ≡ second
 then_refused first rest second none is = ap (λ o. option_or o rest) none ∙ is
-
-pub first_refused : {E : Type 0} (first rest : Option E) (e : E) → first ≡ Some e → option_or first rest ≡ Some e
-first_refused first rest e is = ap (λ o. option_or o rest) is
 
 -- what is made has a path that fits
 pub created-fits : {A : Type 0} (fits : Bool) (max_alignment : ℕ) (contents : Contents (Segment A))
@@ -135,7 +137,79 @@ module _ {T : Type 0} (old mid new : Contents T) (path : List ℕ) (value : T) (
         (subst (λ contents. Holds contents count handle) (sym made)
         (KeepsHandles-after_creation old path value version count handle some small holds)))
 
-    pub ids_apart : (first : Handle) → first ≡ new_handle mid other true → Has mid management →
-        first.id ≢ management.id
-    ids_apart first is has same =
-        not_new mid management has (sym same ∙ ap (λ (h : Handle). h.id) is)
+-- ---- both segments of a memory
+
+module _ {A C : Type 0} (rules : allocator.Ghosts A C) (old mid new : Contents (Segment A)) (plan : MemoryPlan)
+    (hint other : SharedMemorySetupHint C) (name first_name : List ℕ) (name_is : name ≡ plan.name ++ codes "__mgmt")
+    (first_is : first_name ≡ plan.name ++ number_end 0) (management first : Handle)
+    (created : mid ≡ after_creation old (file_path_for plan.settings name) (made_segment rules hint) finished_version)
+    (handle_is : management ≡ new_handle old (file_path_for plan.settings name) true) where
+  managed_is : mid ≡ managed_contents rules old plan hint
+  managed_is = created
+      ∙ ap (λ n. after_creation old (file_path_for plan.settings n) (made_segment rules hint) finished_version) name_is
+
+  management_is : management ≡ management_handle old plan
+  management_is = handle_is ∙ ap (λ n. new_handle old (file_path_for plan.settings n) true) name_is
+
+  -- where the management segment isn't refused, the cause is that of segment 0
+  pub refusal_then : (rest : Option SharedMemoryCreateError) →
+      segment_refusal rules old (segment_plan rules plan.settings name hint) hint ≡ None →
+      segment_refusal rules mid (segment_plan rules plan.settings first_name other) other ≡ rest →
+      segments_refusal rules old plan hint other ≡ rest
+  refusal_then rest none is =
+      then_refused (management_refusal rules old plan hint)
+      (first_refusal rules (managed_contents rules old plan hint) plan other) rest
+      (ap (λ n. segment_refusal rules old (segment_plan rules plan.settings n hint) hint) (sym name_is) ∙ none)
+      (ap (λ m. first_refusal rules m plan other) (sym managed_is)
+      ∙ ap (λ n. segment_refusal rules mid (segment_plan rules plan.settings n other) other) (sym first_is) ∙ is)
+
+  module _
+      (also : new ≡ after_creation mid (file_path_for plan.settings first_name) (made_segment rules other)
+      finished_version)
+      (first_handle_is : first ≡ new_handle mid (file_path_for plan.settings first_name) true) (slots : Slots)
+      (slots_is : slots ≡ with_segment (empty_slots 256) 0 first) where
+    first_is_new : first ≡ first_handle (managed_contents rules old plan hint) plan
+    first_is_new = first_handle_is
+        ∙ ap (λ n. new_handle mid (file_path_for plan.settings n) true) first_is
+        ∙ ap (λ m. first_handle m plan) managed_is
+
+    pub MakesMemory-both : (memory : MemoryState) →
+        memory ≡ first_memory plan.name plan.settings plan.strategy management slots →
+        MakesMemory rules old plan hint other new memory
+    MakesMemory-both memory memory_is = record {
+      registry = also
+          ∙ ap (λ n. after_creation mid (file_path_for plan.settings n) (made_segment rules other) finished_version)
+          first_is
+          ∙ ap (λ m. first_contents rules m plan other) managed_is;
+      is = memory_is
+          ∙ ap (λ s. first_memory plan.name plan.settings plan.strategy management s)
+          (slots_is ∙ ap (with_segment (empty_slots 256) 0) first_is_new)
+          ∙ ap (λ h. memory_of plan h (first_handle (managed_contents rules old plan hint) plan)) management_is;
+    }
+
+    pub IsSoundMemory-both : IsFileName (plan.name ++ codes "__mgmt") →
+        segment_refusal rules old (segment_plan rules plan.settings name hint) hint ≡ None → Has mid management →
+        id_at mid (file_path_for plan.settings first_name) ≡ None →
+        IsSoundMemory (first_memory plan.name plan.settings plan.strategy management slots)
+    IsSoundMemory-both rule none has free =
+        IsSoundMemory-first management first slots slots_is plan.name plan.settings plan.strategy rule
+        (subst (λ n. is_too_long plan.settings n ≡ false) name_is
+        (created-fits _ _ old (segment_plan rules plan.settings name hint) none))
+        (ap (λ (h : Handle). h.is_owner) management_is) (ap (λ (h : Handle). h.path) management_is)
+        (ap (λ (h : Handle). h.is_owner) first_is_new) (ap (λ (h : Handle). h.path) first_is_new)
+        (λ same. not_new mid management has (sym same ∙ ap (λ (h : Handle). h.id) first_handle_is))
+
+-- where a memory is made from what is proposed, it is made by the plan
+pub CreatesMemory-by : {A C E : Type 0} (rules : allocator.Ghosts A C) (old : Contents (Segment A)) (plan : MemoryPlan)
+    (new : Contents (Segment A)) (management first : SharedMemorySetupHint C) →
+    rules.initial_setup_hint plan.layout plan.number_of_chunks ≡ Some first →
+    rules.initial_setup_hint one_byte 1 ≡ Some management → (result : Result MemoryState E) →
+    IfOk result (MakesMemory rules old plan management first new) → IfOk result (CreatesMemory rules old plan new)
+CreatesMemory-by rules old plan new management first first_is management_is (Err error) makes = tt
+CreatesMemory-by rules old plan new management first first_is management_is (Ok memory) makes = record {
+  management = management;
+  first = first;
+  first_hint = first_is;
+  management_hint = management_is;
+  makes = makes;
+}

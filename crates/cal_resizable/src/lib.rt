@@ -10,6 +10,7 @@ mod closing;
 mod errors;
 mod growth;
 mod memory;
+mod memory_builder;
 pub mod name_laws;
 pub mod names;
 mod place;
@@ -20,6 +21,7 @@ pub mod view_laws;
 
 pub use errors::ResizableShmAllocationError;
 pub use memory::DynamicMemory;
+pub use memory_builder::DynamicMemoryBuilder;
 pub use names::{
     extract_name_and_segment_id, extract_name_from_management_segment, management_segment_name,
     segment_name,
