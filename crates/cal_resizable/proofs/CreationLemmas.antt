@@ -205,11 +205,11 @@ pub CreatesMemory-by : {A C E : Type 0} (rules : allocator.Ghosts A C) (old : Co
     rules.initial_setup_hint plan.layout plan.number_of_chunks ≡ Some first →
     rules.initial_setup_hint one_byte 1 ≡ Some management → (result : Result MemoryState E) →
     IfOk result (MakesMemory rules old plan management first new) → IfOk result (CreatesMemory rules old plan new)
-CreatesMemory-by rules old plan new management first first_is management_is (Err error) makes = tt
-CreatesMemory-by rules old plan new management first first_is management_is (Ok memory) makes = record {
+CreatesMemory-by rules old plan new management first is also (Err error) makes = tt
+CreatesMemory-by rules old plan new management first is also (Ok memory) makes = record {
   management = management;
   first = first;
-  first_hint = first_is;
-  management_hint = management_is;
+  first_hint = is;
+  management_hint = also;
   makes = makes;
 }

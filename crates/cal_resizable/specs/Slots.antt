@@ -21,6 +21,14 @@ empty_slots number = replicate number None
 abbrev pub segment_at : Slots → ℕ → Option HeldSegment
 segment_at slots number = slice_index_or slots number None
 
+-- the id of the segment in a slot, 0 where there is none
+abbrev pub id_in : Option HeldSegment → ℕ
+id_in None = 0
+id_in (Some held) = held.handle.id
+
+abbrev pub id_at_slot : Slots → ℕ → ℕ
+id_at_slot slots number = id_in (segment_at slots number)
+
 -- how many segments a slot holds
 abbrev pub number_in : Option HeldSegment → ℕ
 number_in None = 0

@@ -9,6 +9,7 @@
 mod closing;
 mod errors;
 mod growth;
+mod lending;
 mod memory;
 mod memory_builder;
 pub mod name_laws;
@@ -20,6 +21,7 @@ pub mod view_builder;
 pub mod view_laws;
 
 pub use errors::ResizableShmAllocationError;
+pub use lending::SegmentsHolder;
 pub use memory::DynamicMemory;
 pub use memory_builder::DynamicMemoryBuilder;
 pub use names::{

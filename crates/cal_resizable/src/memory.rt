@@ -16,6 +16,7 @@ ghost use Rattle.cal_resizable.specs.Slots.{segment_at, count_at, number_held, w
 use crate::closing::close_all;
 use crate::errors::ResizableShmAllocationError;
 use crate::growth::{make_segment, plan_growth};
+use crate::lending::SegmentsHolder;
 use crate::names::segment_name;
 use crate::slots::{NUMBER_OF_SLOTS, SegmentSlots};
 use cal_alloc::{
@@ -337,6 +338,23 @@ impl<A: ShmAllocator, Shm: SharedMemory<A>> DynamicMemory<A, Shm> {
             .segment(number)
             .deallocate(reg, in_segment, layout);
         take_back(&mut self.slots, reg, self.current, number);
+    }
+}
+
+impl<A: ShmAllocator, Shm: SharedMemory<A>> SegmentsHolder<AllocatorDetails<A>>
+    for DynamicMemory<A, Shm> {
+    ghost management = { λ m. m.management };
+
+    ghost slots = { λ m. m.slots };
+
+    fn bytes_mut<'r>(
+        reg: &'r mut Registry<AllocatorDetails<A>>,
+        memory: &Self,
+        offset: PointerOffset,
+        count: usize,
+    ) -> &'r mut [u8] {
+        let number = offset.segment_id().value();
+        Shm::bytes_mut(reg, memory.slots.segment(number), offset, count)
     }
 }
 
