@@ -1,5 +1,6 @@
 pub mod Closing
 pub mod Growth
+pub mod Management
 pub mod Memory
 pub mod SegmentNameLemmas
 pub mod SegmentNames

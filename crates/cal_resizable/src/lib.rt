@@ -9,6 +9,7 @@
 mod closing;
 mod errors;
 mod growth;
+mod management;
 mod memory;
 pub mod name_laws;
 pub mod names;
