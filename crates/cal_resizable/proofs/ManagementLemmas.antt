@@ -3,7 +3,7 @@ use Rattle.std.specs.Prelude.{◌≡◌, ◌↔◌, ℕ, ◌++◌, Bool, true, f
 use Rattle.std.specs.List.{list_any, filter, filter_map, cons_option, AllByRecursion}
 use Rattle.std.specs.Option.{option_and_then}
 use Rattle.std.specs.Str.{bytes_eq}
-use Rattle.std.proofs.Common.{refl, sym, ap, ◌∙◌, subst}
+use Rattle.std.proofs.Common.{refl, sym, ap, ◌∙◌, subst, true≢false}
 use Rattle.std.proofs.lemmas.Option.{none-some, same_Some}
 use Rattle.std.proofs.lemmas.Slice.Eq.{bytes_eq-Decides}
 use Rattle.cal_names.specs.ConceptSettings.{ConceptSettings, extracted_name_at}
@@ -237,10 +237,7 @@ as_file_name-same bytes name is = from (is_file_name bytes) is
     from false is = absurd (none-some name is)
 
 is_name-true : (name : List ℕ) (shown : Option (List ℕ)) → is_name name shown ≡ true → shown ≡ Some name
-is_name-true name None is = absurd (false-true is)
-  where
-    false-true : false ≡ true → ⊥
-    false-true h = subst (λ (b : Bool). if b then ⊥ else ℕ) h 0
+is_name-true name None is = absurd (true≢false (sym is))
 is_name-true name (Some other) is = ap (λ (n : List ℕ). Some n) ((bytes_eq-Decides other name).0 is)
 
 module _ (settings : ConceptSettings) (memory : List ℕ) (rule : IsFileName memory) where
@@ -279,7 +276,4 @@ module _ (settings : ConceptSettings) (memory : List ℕ) (rule : IsFileName mem
           same_tests (is_name memory (managed_name other)) false
           (λ managed. absurd (no_file_name other ((extracted_name_at-exact settings path other).0 is).0
           (is_name-true memory (managed_name other) managed)))
-          (λ h. absurd (false-true h))
-        where
-          false-true : false ≡ true → ⊥
-          false-true h = subst (λ (b : Bool). if b then ⊥ else ℕ) h 0
+          (λ h. absurd (true≢false (sym h)))

@@ -2,11 +2,15 @@
 //! `resizable_shared_memory/dynamic.rs` of iceoryx2-cal 0.9.3.
 ghost use Rattle.std.specs.Prelude.{◌≡◌, true, IfOk, IfErr, if◌then◌else◌};
 ghost use Rattle.std.specs.List.{list_any, filter_map};
+ghost use Rattle.std.specs.List.Sorted.{IsStrictlySortedBy};
+ghost use Rattle.std.specs.Cmp.Lexicographic.{slice_cmp};
+ghost use Rattle.std.specs.Ordering.{nat_cmp};
 ghost use Rattle.std.specs.Map.{keys_of};
 ghost use Rattle.cal_names.specs.NamedConceptMgmt.{is_name};
 ghost use Rattle.cal_storage.specs.Holding.{KeepsHandles};
+ghost use Rattle.cal_storage.specs.Managing.{goes_with};
 ghost use Rattle.cal_storage.specs.Refusals.{after_name_removal};
-ghost use Rattle.cal_resizable.specs.Management.{belongs_to, shown_memory, goes_with_memory, after_removals, paths_without, after_memory_removal, shown_memory-goes};
+ghost use Rattle.cal_resizable.specs.Management.{belongs_to, shown_memory, goes_with_memory, after_removals, paths_without, segment_names, after_memory_removal, shown_memory-goes};
 ghost use Rattle.cal_resizable.specs.SegmentNames.{managed_name};
 
 use crate::memory::DynamicMemory;
@@ -20,7 +24,7 @@ use cal_names::{
 };
 use cal_shm::{AllocatorDetails, SharedMemory};
 use cal_storage::Registry;
-use std::alloc::Global;
+use std::alloc::{AllocError, Global};
 
 impl<A: ShmAllocator, Shm: SharedMemory<A>> NamedConceptMgmt for DynamicMemory<A, Shm> {
     type Configuration = Shm::Configuration;
@@ -45,11 +49,11 @@ impl<A: ShmAllocator, Shm: SharedMemory<A>> NamedConceptMgmt for DynamicMemory<A
         name: &FileName,
         cfg: &Shm::Configuration,
     ) -> Result<bool, NamedConceptRemoveError> {
-        match Shm::list_cfg(alloc, reg, cfg) {
-            Ok(segments) => Ok(remove_all::<A, Shm>(
+        match segments::<A, Shm>(alloc, reg, cfg) {
+            Ok(listed) => Ok(remove_all::<A, Shm>(
                 alloc,
                 reg,
-                segments.as_slice(),
+                listed.as_slice(),
                 name,
                 cfg,
             )),
@@ -64,7 +68,7 @@ impl<A: ShmAllocator, Shm: SharedMemory<A>> NamedConceptMgmt for DynamicMemory<A
     ) -> Result<bool, NamedConceptDoesExistError> {
         let _bytes = name.as_bytes();
         match management_segment_name(name) {
-            Some(segment) => Shm::does_exist_cfg(reg, &segment, cfg),
+            Some(segment) => has_segment::<A, Shm>(reg, &segment, cfg),
             None => Ok(false),
         }
     }
@@ -74,9 +78,13 @@ impl<A: ShmAllocator, Shm: SharedMemory<A>> NamedConceptMgmt for DynamicMemory<A
         reg: &Registry<AllocatorDetails<A>>,
         cfg: &Shm::Configuration,
     ) -> Result<Vec<FileName>, NamedConceptListError> {
-        match Shm::list_cfg(alloc, reg, cfg) {
-            Ok(segments) => memories_of(alloc, segments.as_slice()),
-            Err(error) => Err(error),
+        let listed = match segments::<A, Shm>(alloc, reg, cfg) {
+            Ok(listed) => listed,
+            Err(error) => return Err(error),
+        };
+        match memories_of(alloc, listed.as_slice()) {
+            Ok(memories) => Ok(memories),
+            Err(_) => Err(NamedConceptListError::NoMemory),
         }
     }
 
@@ -87,19 +95,40 @@ impl<A: ShmAllocator, Shm: SharedMemory<A>> NamedConceptMgmt for DynamicMemory<A
     ghost shown_goes = { shown_memory-goes };
 }
 
-/// The names of the memories whose management segments have these names.
-fn memories_of(
+/// The names of all segments, in the order of the bytes of their paths.
+fn segments<A: ShmAllocator, Shm: SharedMemory<A>>(
     alloc: Global,
-    segments: &[FileName],
+    reg: &Registry<AllocatorDetails<A>>,
+    cfg: &Shm::Configuration,
 ) -> Result<Vec<FileName>, NamedConceptListError>
-    ensures names { IfOk result (λ list. list.items ≡ filter_map managed_name segments.now) }
+    ensures names { IfOk result (λ list.
+        list.items ≡ segment_names (Shm.Configuration.settings cfg.now) reg.now) }
+    ensures ordered { IsStrictlySortedBy (slice_cmp nat_cmp) (keys_of reg.now.names) }
     ensures no_memory { IfErr result (λ error. error ≡ NamedConceptListError.NoMemory) }
+{
+    Shm::list_cfg(alloc, reg, cfg)
+}
+
+/// Whether the segment of a name is there.
+fn has_segment<A: ShmAllocator, Shm: SharedMemory<A>>(
+    reg: &Registry<AllocatorDetails<A>>,
+    segment: &FileName,
+    cfg: &Shm::Configuration,
+) -> Result<bool, NamedConceptDoesExistError>
+    ensures found { result ≡ Ok (list_any (goes_with (Shm.Configuration.settings cfg.now) segment.now)
+        (keys_of reg.now.names)) }
+{
+    Shm::does_exist_cfg(reg, segment, cfg)
+}
+
+/// The names of the memories whose management segments have these names.
+fn memories_of(alloc: Global, segments: &[FileName]) -> Result<Vec<FileName>, AllocError>
+    ensures names { IfOk result (λ list. list.items ≡ filter_map managed_name segments.now) }
 {
     segments
         .iter()
         .filter_map(|segment| extract_name_from_management_segment(segment))
         .collect(alloc)
-        .map_err(|_| NamedConceptListError::NoMemory)
 }
 
 /// Removes each segment of a memory that is among those listed, and answers whether there is one.
@@ -119,8 +148,7 @@ fn remove_all<A: ShmAllocator, Shm: SharedMemory<A>>(
 {
     let mut found = false;
     for segment in listed {
-        let belongs = remove_own::<A, Shm>(alloc, reg, segment, memory, cfg);
-        found = found | belongs;
+        found |= remove_own::<A, Shm>(alloc, reg, segment, memory, cfg);
     }
     found
 }
