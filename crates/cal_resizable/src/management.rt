@@ -50,13 +50,7 @@ impl<A: ShmAllocator, Shm: SharedMemory<A>> NamedConceptMgmt for DynamicMemory<A
         cfg: &Shm::Configuration,
     ) -> Result<bool, NamedConceptRemoveError> {
         match segments::<A, Shm>(alloc, reg, cfg) {
-            Ok(listed) => Ok(remove_all::<A, Shm>(
-                alloc,
-                reg,
-                listed.as_slice(),
-                name,
-                cfg,
-            )),
+            Ok(listed) => Ok(remove_all::<A, Shm>(alloc, reg, listed.as_slice(), name, cfg)),
             Err(_) => Err(NamedConceptRemoveError::NoMemory),
         }
     }
@@ -216,3 +210,6 @@ fn is_name(found: Option<FileName>, name: &FileName) -> bool
         None => false,
     }
 }
+
+#[cfg(test)]
+mod tests;
