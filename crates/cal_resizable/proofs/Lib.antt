@@ -6,6 +6,7 @@ pub mod CutLemmas
 mod GrowthLemmas
 mod KeepingLemmas
 mod LeavingLemmas
+mod ManagementLemmas
 mod MemoryLemmas
 mod SlotLemmas
 mod ViewCallLemmas

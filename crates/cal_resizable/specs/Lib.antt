@@ -1,6 +1,7 @@
 pub mod Closing
 pub mod Creation
 pub mod Growth
+pub mod Management
 pub mod Memory
 pub mod SegmentNameLemmas
 pub mod SegmentNames

@@ -10,6 +10,7 @@ mod closing;
 mod errors;
 mod growth;
 mod lending;
+mod management;
 mod memory;
 mod memory_builder;
 pub mod name_laws;
