@@ -1,11 +1,11 @@
 -- What calls leave of the entries of a growing memory.
-use Rattle.std.proofs.Common.{◌≡◌, ◌≢◌, ℕ, ◌+◌, ◌-◌, ◌<◌, ◌⊎◌, ◌==◌, Bool, true, false, if◌then◌else◌, Option, Some, None, IsSomeAnd, option_map, length, slice_set, refl, sym, ap, ◌∙◌, subst, inl, inr, arith, true≢false, eqb-true, eq-eqb}
+use Rattle.std.proofs.Common.{◌≡◌, ◌≢◌, ℕ, ◌+◌, ◌-◌, ◌<◌, ◌≤◌, ◌^◌, ◌⊎◌, ◌==◌, Bool, true, false, if◌then◌else◌, Option, Some, None, IsSomeAnd, option_map, length, slice_set, refl, sym, ap, ◌∙◌, subst, inl, inr, arith, true≢false, eqb-true, eq-eqb}
 use Rattle.std.proofs.lemmas.List.{length-set}
 use Rattle.std.proofs.lemmas.Option.{none-some, same_Some}
 use Rattle.cal_alloc.specs.PointerOffset.{pointer_offset, offset_of}
 use Rattle.cal_alloc.specs.SizeAndAlignment.{SizeAndAlignment}
 use Rattle.cal_alloc.specs.declared.shm_allocator.ShmAllocator as allocator
-use Rattle.cal_storage.specs.Contents.{Contents, Has}
+use Rattle.cal_storage.specs.Contents.{Contents, Has, with_value}
 use Rattle.cal_storage.specs.Holding.{Holds, IsNamed}
 use Rattle.cal_shm.specs.Calls.{ChangesAllocator}
 use Rattle.cal_shm.specs.Segment.{Segment, with_allocator}

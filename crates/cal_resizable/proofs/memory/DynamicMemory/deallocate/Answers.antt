@@ -1,7 +1,9 @@
 use Rattle.std.proofs.Common.{◌≡◌, ◌<◌, ℕ, sym, subst, ◌∙◌}
-use Rattle.cal_alloc.specs.PointerOffset.{segment_of}
-use Rattle.cal_resizable.specs.Memory.{MemoryState, HasAll}
-use Rattle.cal_resizable.specs.Slots.{count_at}
+use Rattle.cal_alloc.specs.PointerOffset.{pointer_offset, offset_of, segment_of}
+use Rattle.cal_shm.specs.Calls.{ChangesAllocator}
+use Rattle.cal_resizable.specs.Growth.{TakesBack}
+use Rattle.cal_resizable.specs.Memory.{MemoryState, HasAll, KeepsOwn}
+use Rattle.cal_resizable.specs.Slots.{SparesHandles, count_at}
 use Rattle.cal_resizable.proofs.KeepingLemmas.{EachHandle-leaves, LeavesHandle-ChangesAllocator, has_segment, IsSoundMemory-returned, TakesBack-by, KeepsOwn-returned, SparesHandles-returned}
 use Rattle.cal_resizable.proofs.memory.DynamicMemory.deallocate.Goals as goal
 

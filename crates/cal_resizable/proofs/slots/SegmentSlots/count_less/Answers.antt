@@ -1,4 +1,4 @@
-use Rattle.std.proofs.Common.{sym, ap, ◌∙◌, slice_set, arith}
+use Rattle.std.proofs.Common.{◌≡◌, Some, sym, ap, ◌∙◌, slice_set, arith}
 use Rattle.cal_resizable.specs.declared.slots.CountedSegment.{CountedSegment}
 use Rattle.cal_resizable.specs.Slots.{HeldSegment, counted_less}
 use Rattle.cal_resizable.proofs.SlotLemmas.{IsCounted-same, shown_then, some_found}
