@@ -1,4 +1,4 @@
-use Rattle.std.proofs.Common.{◌≡◌, ◌++◌, ℕ, List, Some, None, IsSome, codes, refl, sym, ap, subst, ◌∙◌, inl, inr, arith}
+use Rattle.std.proofs.Common.{◌≡◌, ◌++◌, Some, None, IsSome, codes, refl, sym, ap, subst, ◌∙◌, inl, inr, arith}
 use Rattle.cal_names.specs.FileName.{IsFileName}
 use Rattle.cal_storage.specs.Contents.{Has, after_close}
 use Rattle.cal_storage.specs.Holding.{Holds, IsNamed}
@@ -212,7 +212,8 @@ returns-in-Err-make_segment-clause-error g c =
     rw (← c.self.view_is)
     (elim c.in-Err-make_segment.ensures.error [
       | inl is ↦ inl (refusal_then R old mid mid plan c.args.management.now c.args.first.now c.args.name.now
-          c.unwrap-first_name.result name_is first_is management management c.in-Ok.ensures.created c.in-Ok.ensures.handle
+          c.unwrap-first_name.result name_is first_is management management c.in-Ok.ensures.created
+          c.in-Ok.ensures.handle
           (Some c.in-Err-make_segment.error) none is)
       | inr no_memory ↦ inr no_memory
     ])
