@@ -1,10 +1,10 @@
 -- With one sample a segment each offset is 0, so that all of them can be acquired.
-use Rattle.std.proofs.Common.{◌≡◌, ◌≢◌, ℕ, ◌*◌, ◌^◌, ◌<◌, ◌≤◌, ◌⊎◌, true, false, sym, ap, subst, ◌∙◌, inl, inr, arith}
+use Rattle.std.proofs.Common.{◌≡◌, ℕ, ◌*◌, ◌^◌, ◌<◌, ◌≤◌, false, sym, subst, ◌∙◌, inl, inr, arith}
 use Rattle.std.proofs.lemmas.Bool.{cases_lt, false≢true}
 use Rattle.std.proofs.lemmas.List.{get_or_past}
 use Rattle.cal_alloc.specs.Limits.{max_memory_size}
 use Rattle.cal_connection.specs.Acquisition.{IsAcquirable}
-use Rattle.cal_connection.specs.Channel.{ChannelEntry, is_used, no_segment, samples_of, segment_at}
+use Rattle.cal_connection.specs.Channel.{ChannelEntry, no_segment, samples_of, segment_at}
 use Rattle.cal_connection.specs.Port.{PortEntry, IsSoundPort, channel_at, no_channel}
 use Rattle.cal_connection.specs.PortLemmas.{length-channels, length-segments, samples-segment_at}
 

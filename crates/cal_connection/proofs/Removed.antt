@@ -1,5 +1,5 @@
 -- A removal by force lets go of what it opened alone.
-use Rattle.std.proofs.Common.{◌≡◌, ◌≢◌, ℕ, ◌+◌, ◌-◌, ◌^◌, ◌<◌, ◌≤◌, List, Option, Some, None, IsSomeAnd, refl, sym, ap, subst, ◌∙◌, inl, inr, arith}
+use Rattle.std.proofs.Common.{◌≡◌, ℕ, ◌-◌, ◌^◌, ◌<◌, ◌≤◌, List, Option, Some, None, IsSomeAnd, refl, sym, ap, subst, ◌∙◌, inl, inr, arith}
 use Rattle.std.specs.Option.{option_map}
 use Rattle.std.proofs.lemmas.Bool.{cases_eq}
 use Rattle.cal_names.specs.ConceptSettings.{ConceptSettings, file_path_for}
@@ -8,7 +8,7 @@ use Rattle.cal_storage.specs.declared.handle.Handle.{Handle}
 use Rattle.cal_storage.specs.declared.dynamic_storage.errors.DynamicStorageOpenError.{DynamicStorageOpenError}
 use Rattle.cal_storage.specs.declared.dynamic_storage.errors.DynamicStorageOpenError.TheVariants as opening
 use Rattle.cal_storage.specs.Contents.{Contents, Has, one_more, one_less, id_at, entry_of, found_handle, after_opening, after_close}
-use Rattle.cal_storage.specs.ContentsLaws.{one_holder_more, one_holder_less}
+use Rattle.cal_storage.specs.ContentsLaws.{one_holder_more}
 use Rattle.cal_storage.specs.EntryLemmas.{after_opening-ChangesEntry, after_close-LetsGo}
 use Rattle.cal_storage.specs.HandleLemmas.{has_entry}
 use Rattle.cal_storage.specs.Holding.{Holds, KeepsHandles}

@@ -1,5 +1,5 @@
 -- What the handler of a blocking send answers, turn by turn.
-use Rattle.std.specs.Prelude.{◌≡◌, ℕ, ◌+◌, ◌-◌, ◌^◌, ◌<◌, ◌⊎◌, Bool, true, false, not, ◌&&◌, min, List, [], ◌∷◌, Result, Ok, Err, Option, if◌then◌else◌}
+use Rattle.std.specs.Prelude.{◌≡◌, ℕ, ◌+◌, ◌-◌, ◌^◌, Bool, true, false, not, min, List, [], ◌∷◌, Result, Ok, Err, if◌then◌else◌}
 use Rattle.cal_connection.specs.declared.backpressure.BackpressureToReceiverAction.{BackpressureToReceiverAction}
 use Rattle.cal_connection.specs.declared.backpressure.BackpressureToReceiverAction.TheVariants.{FollowBackpressureyStrategy, Retry, DiscardPointerOffset, DiscardPointerOffsetAndFail}
 use Rattle.cal_connection.specs.declared.backpressure.Obstacle.{Obstacle}

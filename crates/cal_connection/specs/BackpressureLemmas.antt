@@ -1,5 +1,5 @@
 -- What the turns of a blocking send lead to.
-use Rattle.std.specs.Prelude.{◌≡◌, ℕ, ◌<◌, ◌^◌, Bool, true, false, not, List, [], ◌∷◌, Result, Ok, Err, Option, if◌then◌else◌}
+use Rattle.std.specs.Prelude.{◌≡◌, ℕ, ◌<◌, ◌^◌, Bool, true, false, not, List, [], ◌∷◌, Result, Err, if◌then◌else◌}
 use Rattle.std.proofs.Common.{refl, sym, ap, ◌∙◌, subst, inl, inr}
 use Rattle.std.proofs.lemmas.Bool.{cases_Bool}
 use Rattle.cal_storage.specs.declared.handle.Handle.{Handle}
@@ -11,7 +11,7 @@ use Rattle.cal_connection.specs.declared.errors.ZeroCopySendError.{ZeroCopySendE
 use Rattle.cal_connection.specs.Backpressure.{obstacle, passes, asks_again, next_retry, EndsTurns, AnswersObstacle, SomeAnswersEnd}
 use Rattle.cal_connection.specs.declared.errors.ZeroCopySendError.TheVariants.{UnableToDeliver}
 use Rattle.cal_connection.specs.Channel.{ChannelEntry, is_refused, after_send}
-use Rattle.cal_connection.specs.Port.{PortEntry, port_at, settings_at, channel_of, channel_at, with_channel_of}
+use Rattle.cal_connection.specs.Port.{PortEntry, port_at, settings_at, channel_of, with_channel_of}
 use Rattle.cal_connection.specs.RegistryLemmas.{with_channel_of-present}
 
 module _ (Allows : ℕ → BackpressureToReceiverAction → Type 0) (strategy : BackpressureToReceiverAction) where

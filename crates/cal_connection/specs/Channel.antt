@@ -1,5 +1,5 @@
 -- A channel of a connection, what each call answers of it and what it leaves. A call looks at its own channel alone.
-use Rattle.std.specs.Prelude.{◌≡◌, ℕ, ◌+◌, ◌-◌, ◌/◌, ◌%◌, Bool, not, ◌&&◌, ◌==◌, nat_le, List, [], map, replicate, Option, Some, None, Result, Ok, Err, slice_index_or, slice_set, if◌then◌else◌}
+use Rattle.std.specs.Prelude.{ℕ, ◌+◌, ◌-◌, ◌/◌, ◌%◌, Bool, not, ◌&&◌, ◌==◌, nat_le, List, map, replicate, Option, Some, None, Result, Ok, Err, slice_index_or, slice_set, if◌then◌else◌}
 use Rattle.cal_alloc.specs.PointerOffset.{offset_of, segment_of}
 pub use Rattle.cal_queue.specs.Queue.{Queue, empty, is_empty, is_full, oldest, after_pop, after_push, overflow_of, with_room}
 pub use Rattle.cal_queue.specs.UsedChunks.{UsedChunks, capacity_of, contains, after_insertion, after_removal, none_used}

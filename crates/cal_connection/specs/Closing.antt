@@ -1,11 +1,11 @@
 -- What a port that leaves makes of a registry, and what a port that is removed by force does.
-use Rattle.std.specs.Prelude.{◌≡◌, ℕ, Bool, false, Option, Some, None, List, map, Result, Ok, Err}
+use Rattle.std.specs.Prelude.{ℕ, false, Option, Some, None, List, map, Result, Ok, Err}
 use Rattle.cal_storage.specs.declared.handle.Handle.{Handle}
 use Rattle.cal_storage.specs.Contents.{Contents, id_at, found_handle, after_opening, after_close}
 use Rattle.cal_storage.specs.declared.dynamic_storage.errors.DynamicStorageOpenError.{DynamicStorageOpenError}
 use Rattle.cal_storage.specs.declared.dynamic_storage.errors.DynamicStorageOpenError.TheVariants as opening
 use Rattle.cal_storage.specs.Plan.{StoragePlan}
-use Rattle.cal_storage.specs.Refusals.{open_refusal, after_name_removal}
+use Rattle.cal_storage.specs.Refusals.{after_name_removal}
 use Rattle.cal_names.specs.ConceptSettings.{ConceptSettings, file_path_for}
 use Rattle.cal_connection.specs.declared.errors.ZeroCopyPortRemoveError.{ZeroCopyPortRemoveError}
 use Rattle.cal_connection.specs.declared.errors.ZeroCopyPortRemoveError.TheVariants.{DoesNotExist, VersionMismatch}

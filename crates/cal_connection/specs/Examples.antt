@@ -1,5 +1,5 @@
 -- Worked examples of the steps on one channel: closed values that the definitions compute.
-use Rattle.std.specs.Prelude.{ℕ, true, false, List, [], ◌∷◌}
+use Rattle.std.specs.Prelude.{ℕ, true}
 use Rattle.cal_alloc.specs.PointerOffset.{pointer_offset}
 use Rattle.cal_connection.specs.Channel.{ChannelEntry, new_channel, after_acquire, after_send, after_receive, after_release}
 use Rattle.cal_connection.specs.declared.settings.ConnectionSettings.{ConnectionSettings}

@@ -1,5 +1,5 @@
 -- What a builder of connections has.
-use Rattle.std.specs.Prelude.{ℕ, false, max}
+use Rattle.std.specs.Prelude.{false}
 pub use Rattle.cal_names.specs.Plan.{Plan, path_of}
 use Rattle.cal_storage.specs.Plan.{StoragePlan}
 use Rattle.cal_connection.specs.declared.options.ConnectionOptions.{ConnectionOptions}

@@ -1,17 +1,16 @@
 -- What follows of an entry's soundness, and how the entry of a handle is read and written in a registry.
-use Rattle.std.specs.Prelude.{◌≡◌, ◌≢◌, ℕ, ◌<◌, ◌≤◌, ◌^◌, false, List, [], ◌∷◌, length, map, replicate, slice_index_or, slice_set}
+use Rattle.std.specs.Prelude.{◌≡◌, ◌≢◌, ℕ, ◌<◌, ◌≤◌, ◌^◌, false, List, [], ◌∷◌, length, map, replicate, slice_index_or}
 use Rattle.std.proofs.Common.{refl, sym, ap, ◌∙◌, subst, inl, inr, arith}
 use Rattle.std.proofs.Math.Seq.{map-set_same}
 use Rattle.std.proofs.Math.ListN.{get_or-map}
 use Rattle.std.proofs.lemmas.Bool.{cases_lt}
 use Rattle.std.proofs.lemmas.List.{get_or_default, get_or_past, get_or-replicate, get_or-set_other, length-map, length-replicate, same_lists}
-use Rattle.cal_connection.specs.declared.segment_details.SegmentDetails.{SegmentDetails}
 use Rattle.cal_connection.specs.declared.settings.ConnectionSettings.{ConnectionSettings}
 use Rattle.cal_connection.specs.Closing.{closed_channel, with_closed_channels}
 use Rattle.cal_connection.specs.Acquisition.{after_acquiring}
 use Rattle.cal_connection.specs.Settings.{IsClamped, completion_size}
 use Rattle.cal_connection.specs.Words.{IsPortWord}
-use Rattle.cal_connection.specs.Channel.{after_acquire, new_channel, new_segment, ChannelEntry, Shape, shape, shape_of, samples_of, capacity_of, no_segment, segment_at}
+use Rattle.cal_connection.specs.Channel.{after_acquire, new_channel, new_segment, ChannelEntry, Shape, shape, shape_of, samples_of, no_segment, segment_at}
 use Rattle.cal_connection.specs.ShapeLemmas.{shape-after_acquire}
 use Rattle.cal_connection.specs.Port.{PortEntry, IsSoundPort, new_port, no_channel, channel_at, with_channel}
 

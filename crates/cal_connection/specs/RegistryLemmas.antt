@@ -1,12 +1,12 @@
 -- How the entry of a handle is read and written in a registry.
-use Rattle.std.specs.Prelude.{◌≡◌, ◌≢◌, ℕ, ◌+◌, ◌<◌, ◌≤◌, Option, Some, None, IsSomeAnd}
+use Rattle.std.specs.Prelude.{◌≡◌, ◌≢◌, ℕ, ◌+◌, ◌≤◌, Option, Some, None, IsSomeAnd}
 use Rattle.std.specs.Option.{unwrap_or, option_map}
 use Rattle.std.proofs.Common.{refl, sym, ap, ◌∙◌, subst, inl, inr}
 use Rattle.std.proofs.lemmas.Bool.{cases_eq}
 use Rattle.std.proofs.lemmas.List.{set-get_or}
 use Rattle.cal_storage.specs.declared.handle.Handle.{Handle}
 use Rattle.cal_storage.specs.declared.entry.Entry.{Entry}
-use Rattle.cal_storage.specs.Contents.{Contents, Has, entry_of, value_of, with_value}
+use Rattle.cal_storage.specs.Contents.{Contents, Has, entry_of, value_of}
 use Rattle.cal_storage.specs.Holding.{Holds, KeepsHandles, KeepsOtherHandles, LeavesSharers}
 use Rattle.cal_storage.specs.HoldingLemmas.{KeepsHandles-with_value}
 use Rattle.cal_storage.specs.ValueLemmas.{entry_of-with_value-same, entry_of-with_value-other, value_of-with_value-same, value_of-with_value-other, Has-with_value, with_value-present, with_value-twice}

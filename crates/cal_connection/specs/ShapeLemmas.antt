@@ -1,11 +1,11 @@
 -- No call changes how much room a channel has.
-use Rattle.std.specs.Prelude.{◌≡◌, ℕ, ◌<◌, ◌/◌, Bool, true, false, not, ◌&&◌, List, [], ◌∷◌, length, map, replicate, Option, Some, None, slice_index_or, slice_set, if◌then◌else◌, refl}
-use Rattle.std.proofs.Common.{sym, ap, ◌∙◌}
+use Rattle.std.specs.Prelude.{◌≡◌, ℕ, ◌/◌, Bool, true, false, List, [], ◌∷◌, map, Option, Some, None, slice_set, if◌then◌else◌, refl}
+use Rattle.std.proofs.Common.{ap, ◌∙◌}
 use Rattle.std.proofs.Math.Seq.{map-set_same}
 use Rattle.std.proofs.lemmas.List.{length-replicate, length-set}
 use Rattle.cal_alloc.specs.PointerOffset.{offset_of, segment_of}
 use Rattle.cal_connection.specs.declared.segment_details.SegmentDetails.{SegmentDetails}
-use Rattle.cal_connection.specs.Channel.{Queue, ChannelEntry, Shape, shape, samples_of, capacity_of, no_segment, segment_at, names_used_entry, with_entry, without_entry, after_return, with_used, without_used, is_refused, is_full, is_at_limit, after_send, after_receive, after_release, after_reclaim, after_acquire, emptied, after_pop, after_push, oldest, overflow_of, with_room, with_word}
+use Rattle.cal_connection.specs.Channel.{Queue, ChannelEntry, Shape, shape, samples_of, capacity_of, no_segment, segment_at, names_used_entry, with_entry, without_entry, after_return, with_used, without_used, is_refused, is_full, is_at_limit, after_send, after_receive, after_release, after_reclaim, after_acquire, emptied, after_pop, after_push, oldest, overflow_of, with_room}
 
 -- ---- used entries
 

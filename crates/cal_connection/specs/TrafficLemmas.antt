@@ -1,6 +1,6 @@
 -- A channel shows what went over it, over any calls.
-use Rattle.std.specs.Prelude.{◌≡◌, ℕ, ◌+◌, ◌-◌, ◌≤◌, ◌<◌, ◌==◌, Bool, true, false, List, [], ◌∷◌, ◌++◌, length, drop, slice_get, Option, Some, None, Result, Ok, Err, if◌then◌else◌}
-use Rattle.std.proofs.Common.{refl, sym, ap, ◌∙◌, subst, arith}
+use Rattle.std.specs.Prelude.{◌≡◌, ℕ, ◌+◌, ◌-◌, ◌≤◌, ◌<◌, ◌==◌, Bool, true, false, List, [], ◌∷◌, ◌++◌, length, drop, slice_get, Option, Result, Ok, Err, if◌then◌else◌}
+use Rattle.std.proofs.Common.{refl, sym, ap, ◌∙◌, arith}
 use Rattle.std.proofs.lemmas.Bool.Decides.{nat_tests}
 use Rattle.std.proofs.lemmas.List.{drop-append-le, drop-drop, length-append, length-drop}
 use Rattle.cal_connection.specs.declared.segment_details.SegmentDetails.{SegmentDetails}
@@ -10,7 +10,7 @@ use Rattle.cal_connection.specs.declared.errors.ZeroCopyReleaseError.{ZeroCopyRe
 use Rattle.cal_connection.specs.declared.errors.ZeroCopyReleaseError.TheVariants.{RetrieveBufferFull}
 use Rattle.cal_connection.specs.declared.settings.ConnectionSettings.{ConnectionSettings}
 use Rattle.cal_connection.specs.Settings.{IsClamped}
-use Rattle.cal_connection.specs.Channel.{new_channel, Queue, ChannelEntry, is_refused, is_at_limit, is_full, oldest, after_pop, after_push, overflow_of, with_entry, after_return, count_after_receive, count_after_release}
+use Rattle.cal_connection.specs.Channel.{new_channel, is_refused, is_at_limit, is_full, oldest, after_pop, after_push, overflow_of, with_entry, after_return, count_after_receive, count_after_release}
 use Rattle.cal_connection.specs.Traffic.{ChannelCall, sends, receives, releases, reclaims, Side, Traffic, no_traffic, Shows, side_after, traffic_after, traffic_after_receive, traffic_after_reclaim, MayCall, side_after_all, traffic_after_all, MayCallAll}
 
 -- a queue that is full holds something

@@ -1,5 +1,5 @@
 -- The word of a channel, and the word that says which ports are there, as numbers.
-use Rattle.std.specs.Prelude.{◌≡◌, ℕ, ◌+◌, ◌-◌, ◌^◌, ◌%◌, ◌≤◌, ◌⊎◌, Bool, not, ◌&&◌, ◌||◌, ◌==◌, if◌then◌else◌}
+use Rattle.std.specs.Prelude.{ℕ, ◌+◌, ◌-◌, ◌^◌, ◌%◌, Bool, ◌&&◌, ◌||◌, ◌==◌, if◌then◌else◌}
 pub use Rattle.cal_queue.specs.StateTable.{has_bit, mark, IsPortWord, IsPortBit}
 
 -- ---- channels

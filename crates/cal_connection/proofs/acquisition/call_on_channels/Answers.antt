@@ -1,4 +1,4 @@
-use Rattle.std.proofs.Common.{◌≡◌, ◌+◌, ◌∙◌, ◌∷◌, ◌++◌, suc, ap, sym, subst, drop, arith}
+use Rattle.std.proofs.Common.{◌≡◌, ◌+◌, ◌∙◌, ◌∷◌, suc, ap, sym, subst, drop, arith}
 use Rattle.std.proofs.Math.Seq.{drop-cons}
 use Rattle.cal_queue.specs.Callback.{LeadsTo}
 use Rattle.cal_connection.specs.Acquisition.{used_in_segments, used_on_channels}

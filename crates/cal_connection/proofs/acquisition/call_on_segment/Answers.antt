@@ -1,6 +1,6 @@
-use Rattle.std.proofs.Common.{◌≡◌, ◌+◌, ◌∙◌, ◌∷◌, [], Some, None, ap, sym, subst, map, arith}
+use Rattle.std.proofs.Common.{◌≡◌, ◌+◌, ◌∙◌, ◌∷◌, ap, sym, subst, map, arith}
 use Rattle.cal_queue.specs.Callback.{MayRunOver}
-use Rattle.cal_queue.specs.UsedChunkMembers.{member-within, members_from-start, members_from-first, members_from-none}
+use Rattle.cal_queue.specs.UsedChunkMembers.{members_from-start, members_from-first, members_from-none}
 use Rattle.cal_connection.specs.Acquisition.{offset_at, used_in_segment, used_from}
 use Rattle.cal_connection.proofs.Owed.{IsOwed, IsOwed-at_start, IsOwed-called, LeadsTo-at_end, pre-from_MayRunOver}
 use Rattle.cal_connection.proofs.acquisition.call_on_segment.Goals as goal

@@ -1,4 +1,3 @@
-use Rattle.std.proofs.Common.{refl, arith}
 use Rattle.cal_connection.specs.TrafficLemmas.{Shows-new, Shows-calls}
 use Rattle.cal_connection.proofs.laws.a_channel_shows_its_traffic.Goals as goal
 

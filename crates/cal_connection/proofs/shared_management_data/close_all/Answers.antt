@@ -1,7 +1,6 @@
 use Rattle.std.proofs.Common.{◌+◌, ◌∙◌, slice_set, sym, ap, subst, arith}
 use Rattle.std.proofs.lemmas.List.{length-set}
 use Rattle.std.proofs.Math.Seq.{map-set_same}
-use Rattle.cal_connection.specs.Channel.{with_word}
 use Rattle.cal_connection.specs.Closing.{closed_channel}
 use Rattle.cal_connection.proofs.Closed.{AreClosedBelow, AreClosedBelow-set, all_closed}
 use Rattle.cal_connection.proofs.shared_management_data.close_all.Goals as goal

@@ -1,5 +1,4 @@
 use Rattle.std.proofs.Common.{sym, subst}
-use Rattle.cal_connection.specs.Channel.{ChannelEntry}
 use Rattle.cal_connection.specs.Port.{PortEntry, IsSoundPort}
 use Rattle.cal_connection.specs.PortLemmas.{IsSoundPort-closed}
 use Rattle.cal_connection.proofs.shared_management_data.SharedManagementData.close_all_channels.Goals as goal

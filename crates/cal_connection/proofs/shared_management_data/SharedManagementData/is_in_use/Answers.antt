@@ -1,6 +1,6 @@
-use Rattle.std.proofs.Common.{◌≡◌, ◌∙◌, ◌<◌, ◌/◌, sym, ap, subst, refl}
+use Rattle.std.proofs.Common.{◌≡◌, ◌<◌, ◌/◌, sym, subst, refl}
 use Rattle.cal_alloc.specs.PointerOffset.{offset_of, segment_of}
-use Rattle.cal_connection.specs.Channel.{ChannelEntry, capacity_of, segment_at, is_used}
+use Rattle.cal_connection.specs.Channel.{ChannelEntry, capacity_of, segment_at}
 use Rattle.cal_connection.specs.Port.{PortEntry, IsWithin, channel_at, is_in_use}
 use Rattle.cal_connection.specs.PortLemmas.{channel_at-found, length-segments, samples-segment_at}
 use Rattle.cal_connection.proofs.shared_management_data.SharedManagementData.is_in_use.Goals as goal

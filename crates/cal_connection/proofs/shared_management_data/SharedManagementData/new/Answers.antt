@@ -1,6 +1,6 @@
-use Rattle.std.proofs.Common.{◌≡◌, ℕ, ◌∙◌, sym, ap, subst, replicate, arith}
+use Rattle.std.proofs.Common.{◌≡◌, ◌∙◌, sym, ap, subst, replicate, arith}
 use Rattle.cal_connection.specs.Channel.{new_channel}
-use Rattle.cal_connection.specs.Port.{PortEntry, IsSoundPort}
+use Rattle.cal_connection.specs.Port.{IsSoundPort}
 use Rattle.cal_connection.specs.PortLemmas.{IsSoundPort-new}
 use Rattle.cal_connection.proofs.shared_management_data.SharedManagementData.new.Goals as goal
 

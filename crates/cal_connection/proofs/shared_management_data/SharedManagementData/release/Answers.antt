@@ -1,4 +1,4 @@
-use Rattle.std.proofs.Common.{◌∙◌, ap, refl}
+use Rattle.std.proofs.Common.{◌∙◌, ap}
 use Rattle.cal_connection.specs.Channel.{shape}
 use Rattle.cal_connection.specs.PortLemmas.{IsSoundPort-changed}
 use Rattle.cal_connection.specs.ShapeLemmas.{shape-after_release}

@@ -1,4 +1,4 @@
-use Rattle.std.proofs.Common.{◌∙◌, ap, refl}
+use Rattle.std.proofs.Common.{ap}
 use Rattle.cal_connection.specs.Channel.{shape}
 use Rattle.cal_connection.specs.PortLemmas.{IsSoundPort-changed}
 use Rattle.cal_connection.proofs.shared_management_data.SharedManagementData.set_channel_word.Goals as goal

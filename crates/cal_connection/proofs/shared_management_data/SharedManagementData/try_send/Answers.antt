@@ -1,4 +1,4 @@
-use Rattle.std.proofs.Common.{◌≡◌, ◌∙◌, ◌<◌, ◌/◌, sym, ap, subst, length}
+use Rattle.std.proofs.Common.{◌≡◌, ◌∙◌, ◌<◌, ◌/◌, sym, ap, subst}
 use Rattle.cal_alloc.specs.PointerOffset.{offset_of, segment_of}
 use Rattle.cal_connection.specs.Channel.{ChannelEntry, shape, capacity_of, segment_at, send_answer, after_send}
 use Rattle.cal_connection.specs.Port.{PortEntry, IsWithin, channel_at, with_channel}
