@@ -10,7 +10,7 @@ use Rattle.cal_names.specs.ConceptSettings.{ConceptSettings, file_path_for}
 use Rattle.cal_names.specs.FileName.{IsFileName}
 use Rattle.cal_storage.specs.Contents.{Contents, Has, id_at, after_creation, after_close, new_handle}
 use Rattle.cal_storage.specs.ContentsLaws.{KeepsEntries}
-use Rattle.cal_storage.specs.Holding.{Holds, IsNamed, KeepsHandles}
+use Rattle.cal_storage.specs.Holding.{Holds, KeepsHandles}
 use Rattle.cal_storage.specs.HoldingLemmas.{KeepsHandles-after_creation}
 use Rattle.cal_storage.specs.Refusals.{finished_version, is_too_long}
 use Rattle.cal_storage.specs.ValueLemmas.{after_close-after_creation}
@@ -23,7 +23,7 @@ use Rattle.cal_resizable.specs.Creation.{MemoryPlan, MakesMemory, CreatesMemory,
 use Rattle.cal_resizable.specs.Growth.{segment_plan, segment_refusal, made_segment}
 use Rattle.cal_resizable.specs.SegmentNames.{number_end}
 use Rattle.cal_resizable.specs.Memory.{MemoryState, IsSoundMemory, IsActive, segment_path, management_path}
-use Rattle.cal_resizable.specs.Slots.{Handle, Slots, HeldSegment, empty_slots, segment_at, with_segment, count_in, count_at, AreApart, EachHeld, EachHandle, LeavesHandle}
+use Rattle.cal_resizable.specs.Slots.{Handle, Slots, HeldSegment, empty_slots, segment_at, with_segment, count_in, count_at, EachHeld, EachHandle, LeavesHandle}
 use Rattle.cal_resizable.proofs.GrowthLemmas.{not_new, leaves_created}
 use Rattle.cal_resizable.proofs.MemoryLemmas.{is_some-from}
 use Rattle.cal_resizable.proofs.SlotLemmas.{length-replicate, segment_at-empty, segment_at-set-same, EachHeld-set}

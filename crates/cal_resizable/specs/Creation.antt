@@ -1,5 +1,5 @@
 -- How a growing memory is created.
-use Rattle.std.specs.Prelude.{◌≡◌, ℕ, ◌+◌, true, Option, Some, None, is_some, List, ◌++◌, codes, if◌then◌else◌}
+use Rattle.std.specs.Prelude.{◌≡◌, ℕ, true, Option, Some, None, is_some, List, ◌++◌, codes, if◌then◌else◌}
 use Rattle.std.specs.Option.{option_or}
 use Rattle.cal_alloc.specs.SizeAndAlignment.{SizeAndAlignment}
 use Rattle.cal_alloc.specs.declared.allocation_strategy.AllocationStrategy.{AllocationStrategy}

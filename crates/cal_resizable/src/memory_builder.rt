@@ -183,13 +183,7 @@ impl<A: ShmAllocator, Shm: SharedMemory<A>> DynamicMemoryBuilder<A, Shm> {
             Ok(segment) => {
                 let mut slots = slots;
                 slots.insert(0, segment);
-                Ok(DynamicMemory::new(
-                    self.name,
-                    self.config,
-                    self.strategy,
-                    managing,
-                    slots,
-                ))
+                Ok(DynamicMemory::new(self.name, self.config, self.strategy, managing, slots))
             }
             Err(error) => {
                 managing.close(reg);

@@ -1,6 +1,6 @@
 use Rattle.std.proofs.Common.{ap, refl, sym, subst, ◌∙◌}
 use Rattle.cal_alloc.specs.PointerOffset.{pointer_offset, offset_of}
-use Rattle.cal_resizable.specs.Memory.{MemoryState, HasAll}
+use Rattle.cal_resizable.specs.Memory.{HasAll}
 use Rattle.cal_resizable.proofs.ChunkLemmas.{chunk_is_out, chunk_is_within, one_more_counted}
 use Rattle.cal_resizable.proofs.KeepingLemmas.{AllocatesHere-by, IsSoundMemory-more, KeepsOwn-leaves, LeavesHandle-ChangesAllocator, was_held-current}
 use Rattle.cal_resizable.proofs.memory.DynamicMemory.allocate_here.Goals as goal

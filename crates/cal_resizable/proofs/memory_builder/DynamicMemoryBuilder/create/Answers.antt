@@ -1,4 +1,4 @@
-use Rattle.std.proofs.Common.{◌≡◌, sym, ap, subst, ◌∙◌}
+use Rattle.std.proofs.Common.{sym, ap, subst, ◌∙◌}
 use Rattle.cal_names.specs.FileName.{IsFileName}
 use Rattle.cal_resizable.specs.Creation.{MemoryPlan}
 use Rattle.cal_resizable.specs.View.{management_name}

@@ -1,4 +1,4 @@
-use Rattle.std.proofs.Common.{◌≡◌, ◌++◌, ℕ, List, Some, None, IsSome, codes, refl, sym, ap, subst, ◌∙◌, inl, inr, arith}
+use Rattle.std.proofs.Common.{◌≡◌, ◌++◌, Some, None, IsSome, codes, refl, sym, ap, subst, ◌∙◌, inl, inr, arith}
 use Rattle.cal_names.specs.FileName.{IsFileName}
 use Rattle.cal_storage.specs.Contents.{Has, after_close}
 use Rattle.cal_storage.specs.Holding.{Holds, IsNamed}
@@ -61,7 +61,7 @@ new-requires-in-Ok-make_segment g c =
     c.insert.ensures.held ∙ ap (λ s. with_segment s 0 first) c.requires.empty in
     record {
       sound = IsSoundMemory-both R old mid new plan c.args.management.now c.args.first.now c.args.name.now
-    c.unwrap-first_name.result name_is first_is management first c.in-Ok.ensures.created c.in-Ok.ensures.handle
+          c.unwrap-first_name.result name_is first_is management first c.in-Ok.ensures.created c.in-Ok.ensures.handle
           c.in-Ok-make_segment.ensures.created c.in-Ok-make_segment.ensures.handle c.insert.new.self slots_is rule none
           c.in-Ok.ensures.holds.0 c.in-Ok-make_segment.ensures.free;
     }
@@ -212,7 +212,8 @@ returns-in-Err-make_segment-clause-error g c =
     rw (← c.self.view_is)
     (elim c.in-Err-make_segment.ensures.error [
       | inl is ↦ inl (refusal_then R old mid mid plan c.args.management.now c.args.first.now c.args.name.now
-    c.unwrap-first_name.result name_is first_is management management c.in-Ok.ensures.created c.in-Ok.ensures.handle
+          c.unwrap-first_name.result name_is first_is management management c.in-Ok.ensures.created
+          c.in-Ok.ensures.handle
           (Some c.in-Err-make_segment.error) none is)
       | inr no_memory ↦ inr no_memory
     ])
