@@ -32,3 +32,6 @@ pub use names::{
 pub use place::Place;
 pub use view::DynamicView;
 pub use view_builder::DynamicViewBuilder;
+
+#[cfg(test)]
+mod tests;
