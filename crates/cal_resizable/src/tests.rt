@@ -1,5 +1,0 @@
-//! Worked examples through the public calls.
-
-mod creation;
-mod fixtures;
-mod growth;
