@@ -31,7 +31,9 @@ module _ (port : PortEntry) (sound : IsSoundPort port) (one : port.settings.numb
     below = λ channel segment index used. elim (cases_lt index 1) [
       | inl first ↦
           let zero : index ≡ 0 = omega arith in
-          subst (λ i. i * (segment_at (channel_at port channel).segments segment).sample_size < max_memory_size) (sym zero)
+          subst
+          (λ i. i * (segment_at (channel_at port channel).segments segment).sample_size < max_memory_size)
+          (sym zero)
           (omega arith)
       | inr past ↦
           absurd (false≢true (sym (get_or_past (segment_at (channel_at port channel).segments segment).used.marks

@@ -34,7 +34,8 @@ deallocate-requires-clause-allocated g c =
     let offset = offset_of c.in_ok-pointer.pointer.offset in
     allocator_after c.args.reg.now c.allocate.new.reg c.write.new.reg handle c.requires.there _
     c.in_ok-pointer.ensures.given offset c.args.bytes.now c.write.ensures.written
-    (λ allocator. g.A.ShmAllocator.IsAllocated allocator c.in_ok-pointer.pointer.offset) c.in_ok-pointer.ensures.allocated
+    (λ allocator. g.A.ShmAllocator.IsAllocated allocator c.in_ok-pointer.pointer.offset)
+    c.in_ok-pointer.ensures.allocated
 
 pub returns-in_err-read-clause-keeps : goal.returns-in_err-read-clause-keeps
 returns-in_err-read-clause-keeps g c =

@@ -53,7 +53,8 @@ index_mut-requires c =
 pub invariant_of-self : goal.invariant_of-self
 invariant_of-self c = sound_after (parts_of c.self.inside) _ 0 (command.Discard c.args.chunk) Discarded
     c.self.invariant.0 c.self.invariant.1
-    (discarded (parts_of c.self.inside) c.args.chunk c.offset_of_bucket-pointer.result c.in-Some.found c.free_unless_live.new.pool
+    (discarded (parts_of c.self.inside) c.args.chunk c.offset_of_bucket-pointer.result c.in-Some.found
+    c.free_unless_live.new.pool
     (subst (λ es. IsFound es c.args.chunk c.in-Some.found) c.deref.ensures.value c.in-Some.ensures.found)
     (not_false c.in-Some.found.entry.loaned c.if-not-found.false)
     (c.offset_of_bucket-pointer.ensures.value)
