@@ -1,7 +1,11 @@
-//! What no clause says: that the list is made with ample memory. The smallest one is written out by hand.
+//! What no clause says: that the list is made and run with ample memory. The smallest one is written out by hand.
 
 use super::fill_commands;
 use crate::command::Command;
+use crate::run::run_transport;
+use crate::settings::Settings;
+use cal_alloc::AllocationStrategy;
+use std::alloc::Global;
 use std::test::Fail;
 
 /// A send on channel 0.
@@ -42,5 +46,52 @@ fn the_smallest_list(rt: HostRuntime) -> Result<(), Fail> {
         release(3),
     ];
     assert_eq!(rt; commands.as_slice(), due.as_slice());
+    Ok(())
+}
+
+/// Settings of these limits, with as many buckets as the completion queue has places.
+fn settings_of(buffer: usize, borrow: usize, places: usize) -> Settings {
+    Settings {
+        size: 1,
+        alignment: 1,
+        count: places,
+        strategy: AllocationStrategy::Static,
+        buffer,
+        borrow,
+        overflow: false,
+        samples: places,
+        segments: 1,
+        channels: 1,
+    }
+}
+
+/// How many replies the commands of the fill list have, the transit lines among them.
+fn count_replies(alloc: Global, buffer: usize, borrow: usize, places: usize) -> Result<usize, Fail>
+    requires some_buffer { 1 ≤ buffer }
+    requires some_borrow { 1 ≤ borrow }
+    requires small { buffer + borrow < 2 ^ 31 }
+{
+    let commands = fill_commands(alloc, buffer, borrow)?;
+    match run_transport(
+        alloc,
+        &settings_of(buffer, borrow, places),
+        commands.as_slice(),
+    ) {
+        Ok(replies) => Ok(replies.len()),
+        Err(_) => Err("the run is whole".into()),
+    }
+}
+
+#[test]
+fn the_lists_of_small_limits(rt: HostRuntime) -> Result<(), Fail> {
+    for buffer in 1..5 {
+        for borrow in 1..5 {
+            let places = buffer + borrow + 1;
+            // A loan and a transit line for each place, four commands for each place of the buffer and of the borrow
+            // limit, and three for the exchange.
+            let due = 2 * places + 4 * (buffer + borrow) + 3;
+            assert_eq!(rt; count_replies(rt.alloc(), buffer, borrow, places)?, due);
+        }
+    }
     Ok(())
 }
