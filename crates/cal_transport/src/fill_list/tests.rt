@@ -2,6 +2,8 @@
 
 use super::fill_commands;
 use crate::command::Command;
+use crate::replies::Replies;
+use crate::reply::Reply;
 use crate::run::run_transport;
 use crate::settings::Settings;
 use cal_alloc::AllocationStrategy;
@@ -49,48 +51,47 @@ fn the_smallest_list(rt: HostRuntime) -> Result<(), Fail> {
     Ok(())
 }
 
-/// Settings of these limits, with as many buckets as the completion queue has places.
-fn settings_of(buffer: usize, borrow: usize, places: usize) -> Settings {
+/// Nine buckets of eight bytes, and one channel of these limits.
+fn settings_of(buffer: usize, borrow: usize) -> Settings {
     Settings {
-        size: 1,
-        alignment: 1,
-        count: places,
+        size: 8,
+        alignment: 8,
+        count: 9,
         strategy: AllocationStrategy::Static,
         buffer,
         borrow,
         overflow: false,
-        samples: places,
+        samples: 9,
         segments: 1,
         channels: 1,
     }
 }
 
-/// How many replies the commands of the fill list have, the transit lines among them.
-fn count_replies(alloc: Global, buffer: usize, borrow: usize, places: usize) -> Result<usize, Fail>
+/// Runs the fill list of these limits.
+fn run_fill_list(alloc: Global, buffer: usize, borrow: usize) -> Result<Replies<Reply>, Fail>
     requires some_buffer { 1 ≤ buffer }
     requires some_borrow { 1 ≤ borrow }
     requires small { buffer + borrow < 2 ^ 31 }
 {
     let commands = fill_commands(alloc, buffer, borrow)?;
-    match run_transport(
-        alloc,
-        &settings_of(buffer, borrow, places),
-        commands.as_slice(),
-    ) {
-        Ok(replies) => Ok(replies.len()),
+    match run_transport(alloc, &settings_of(buffer, borrow), commands.as_slice()) {
+        Ok(replies) => Ok(replies),
         Err(_) => Err("the run is whole".into()),
     }
 }
 
 #[test]
-fn the_lists_of_small_limits(rt: HostRuntime) -> Result<(), Fail> {
+fn no_small_list_is_refused(rt: HostRuntime) -> Result<(), Fail> {
     for buffer in 1..5 {
         for borrow in 1..5 {
-            let places = buffer + borrow + 1;
-            // A loan and a transit line for each place, four commands for each place of the buffer and of the borrow
-            // limit, and three for the exchange.
-            let due = 2 * places + 4 * (buffer + borrow) + 3;
-            assert_eq!(rt; count_replies(rt.alloc(), buffer, borrow, places)?, due);
+            let replies = run_fill_list(rt.alloc(), buffer, borrow)?;
+            // A loan and a transit line for each place of the completion queue, four commands for each place of the
+            // buffer and of the borrow limit, and three for the exchange.
+            let due = 2 * (buffer + borrow + 1) + 4 * (buffer + borrow) + 3;
+            assert_eq!(rt; replies.len(), due);
+            for place in 0..replies.len() {
+                assert!(rt; !matches!(replies.get(place), Some(Reply::Refused(_))));
+            }
         }
     }
     Ok(())
