@@ -1,0 +1,5 @@
+//! Worked examples through the public calls.
+
+mod creation;
+mod fixtures;
+mod growth;
