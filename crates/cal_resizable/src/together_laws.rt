@@ -1,0 +1,71 @@
+//! Laws of a growing memory and a view of it over one registry. Each is a theorem about the definitions that the
+//! contracts of the calls cite, and its function does nothing.
+ghost use Rattle.std.specs.Prelude.{◌≡◌, ℕ, ◌<◌, Bool, Some, None, IsSome, IsSomeAnd, List};
+ghost use Rattle.cal_alloc.specs.PointerOffset.{pointer_offset, offset_of, segment_of};
+ghost use Rattle.cal_alloc.specs.SizeAndAlignment.{SizeAndAlignment};
+ghost use Rattle.cal_storage.specs.Contents.{Contents, id_at};
+ghost use Rattle.cal_shm.specs.Calls.{with_written};
+ghost use Rattle.cal_shm.specs.Segment.{Segment, with_bytes};
+ghost use Rattle.cal_resizable.specs.Chunks.{segment_value};
+ghost use Rattle.cal_resizable.specs.Growth.{Allocates, TakesBack};
+ghost use Rattle.cal_resizable.specs.Memory.{MemoryState, KeepsOwn};
+ghost use Rattle.cal_resizable.specs.Slots.{SparesHandles, segment_at, count_at};
+ghost use Rattle.cal_resizable.specs.Together.{AreTogether};
+ghost use Rattle.cal_resizable.specs.View.{View, segment_path, view_after_arrival, registry_after_arrival, unregistering, registry_after_return, arrival_refusal};
+
+use cal_alloc::ShmAllocator;
+
+/// An offset of an active segment of a memory is never refused by a view of it: the segment is mapped, or its path
+/// stands for it. A segment that both have is the same.
+pub fn an_arrival_of_what_is_out_is_not_refused<A>()
+    ensures not_refused { (checks_version : Bool) (contents : Contents (Segment A)) (memory : MemoryState) (view : View)
+        (number : ℕ) → AreTogether contents memory view → IsSome (segment_at memory.slots number) →
+        arrival_refusal checks_version contents view number ≡ None }
+    ensures found { (contents : Contents (Segment A)) (memory : MemoryState) (view : View) (number : ℕ) →
+        AreTogether contents memory view → IsSome (segment_at memory.slots number) →
+        IsSome (id_at contents (segment_path view number)) }
+    ensures same { (contents : Contents (Segment A)) (memory : MemoryState) (view : View) (number : ℕ) →
+        AreTogether contents memory view → IsSome (segment_at memory.slots number) →
+        IsSome (segment_at view.slots number) →
+        segment_value contents view.slots number ≡ segment_value contents memory.slots number }
+{}
+
+/// A view's calls leave the allocator and the bytes of each segment of the memory.
+pub fn a_view_leaves_the_segments<A>()
+    ensures arrived { (contents : Contents (Segment A)) (memory : MemoryState) (view : View) (number other : ℕ) →
+        AreTogether contents memory view → number < 256 →
+        segment_value (registry_after_arrival contents view number) memory.slots other
+        ≡ segment_value contents memory.slots other }
+    ensures given_back { (contents : Contents (Segment A)) (memory : MemoryState) (view : View) (number other : ℕ) →
+        AreTogether contents memory view →
+        segment_value (registry_after_return contents view number) memory.slots other
+        ≡ segment_value contents memory.slots other }
+{}
+
+/// A memory and a view of it stay together over the view's calls: the arrival of an offset of an active segment, and
+/// the return of one that is registered.
+pub fn a_view_stays_with_its_memory<A>()
+    ensures arrived { (contents : Contents (Segment A)) (memory : MemoryState) (view : View) (number : ℕ) →
+        AreTogether contents memory view → IsSome (segment_at memory.slots number) →
+        AreTogether (registry_after_arrival contents view number) memory (view_after_arrival contents view number) }
+    ensures given_back { (contents : Contents (Segment A)) (memory : MemoryState) (view : View) (number : ℕ) →
+        AreTogether contents memory view →
+        IsSomeAnd (segment_at view.slots number) (λ held. 0 < held.count) →
+        AreTogether (registry_after_return contents view number) memory (unregistering view number) }
+{}
+
+/// A memory and a view of it stay together over the memory's calls, and over a write into any segment.
+pub fn a_memory_stays_with_its_view<A: ShmAllocator>()
+    ensures allocated { (old new : Contents (Segment A)) (before after : MemoryState) (view : View)
+        (layout : SizeAndAlignment) (pointer : ℕ) →
+        Allocates A.ShmAllocator.own old before layout pointer new after → KeepsOwn old before new after →
+        SparesHandles old new before.slots after.slots → AreTogether old before view → AreTogether new after view }
+    ensures returned { (old new : Contents (Segment A)) (before after : MemoryState) (view : View) (pointer : ℕ) →
+        0 < count_at before.slots (segment_of pointer) →
+        TakesBack (λ was is. A.Deallocates was (pointer_offset (offset_of pointer) 0) is) old before
+        (segment_of pointer) new after → KeepsOwn old before new after →
+        SparesHandles old new before.slots after.slots → AreTogether old before view → AreTogether new after view }
+    ensures written { (contents : Contents (Segment A)) (memory : MemoryState) (view : View) (id offset : ℕ)
+        (written : List ℕ) → AreTogether contents memory view →
+        AreTogether (with_written with_bytes contents id offset written) memory view }
+{}
