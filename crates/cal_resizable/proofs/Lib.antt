@@ -8,9 +8,13 @@ mod KeepingLemmas
 mod LeavingLemmas
 mod ManagementLemmas
 mod MemoryLemmas
+mod OutLemmas
+mod SegmentLemmas
 mod SlotLemmas
+mod StayingLemmas
 mod ViewCallLemmas
 mod ViewLawLemmas
 mod ViewLemmas
 mod ViewOpenLemmas
 mod ViewSlotLemmas
+mod WritingLemmas

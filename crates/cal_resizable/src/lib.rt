@@ -6,6 +6,7 @@
 //! the memory's own.
 #![tactic(auto)]
 
+pub mod chunk_laws;
 mod closing;
 mod errors;
 mod growth;
@@ -17,6 +18,7 @@ pub mod name_laws;
 pub mod names;
 mod place;
 mod slots;
+pub mod together_laws;
 pub mod view;
 pub mod view_builder;
 pub mod view_laws;
