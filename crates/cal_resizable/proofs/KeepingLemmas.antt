@@ -148,7 +148,7 @@ module _ (slots : Slots) (number : ℕ) (held : HeldSegment) (at : segment_at sl
 
 module _ (memory : MemoryState) (sound : IsSoundMemory memory) (number : ℕ) (held : HeldSegment)
     (at : segment_at memory.slots number ≡ Some held) where
-  abbrev less : Slots
+  abbrev pub less : Slots
   less = with_less memory.slots number
 
   pub apart_less : AreApart less
@@ -160,7 +160,7 @@ module _ (memory : MemoryState) (sound : IsSoundMemory memory) (number : ℕ) (h
   abbrev pub IsKeptThere : ℕ → HeldSegment → Type 0
   IsKeptThere = IsKept less number within_less apart_less
 
-  kept_there : EachHeld (without_unused less number) IsKeptThere
+  pub kept_there : EachHeld (without_unused less number) IsKeptThere
   kept_there = each_is_kept less number within_less apart_less
 
   pub IsSoundMemory-return : 0 < held.count → IsSoundMemory (after_return memory number)

@@ -1,11 +1,11 @@
 -- A growing memory and a view of it over one registry.
-use Rattle.std.specs.Prelude.{◌≡◌, ℕ, ◌<◌, Some, None}
+use Rattle.std.specs.Prelude.{◌≡◌, ℕ, ◌<◌, ◌≤◌, Some, None}
 use Rattle.cal_storage.specs.declared.entry.Entry.{Entry}
 use Rattle.cal_storage.specs.Contents.{Contents, id_at, entry_of}
 use Rattle.cal_storage.specs.Holding.{Holds}
 use Rattle.cal_storage.specs.Refusals.{finished_version}
 use Rattle.cal_resizable.specs.Memory.{MemoryState, IsSoundMemory, HasAll, HoldsAll, NamesAll, segment_path}
-use Rattle.cal_resizable.specs.Slots.{Slots, HeldSegment, segment_at}
+use Rattle.cal_resizable.specs.Slots.{Slots, HeldSegment, segment_at, EachHeld}
 use Rattle.cal_resizable.specs.View.{View, IsView, HasView}
 
 module _ {T : Type 0} where
@@ -21,8 +21,8 @@ module _ {T : Type 0} where
       segment_at theirs number ≡ Some other → (other.handle.id ≡ one.handle.id) × Holds contents 2 one.handle
 
   -- The registry has the entries of a memory and of a view of it. It counts a holder for each of the memory's, and the
-  -- paths of these stand for them; what both have they share. Every entry is finished, and no path of a segment that is
-  -- still to come stands for anything.
+  -- paths of these stand for them; what both have they share. Every entry is finished. No path of a segment that is still
+  -- to come stands for anything, and the view has none.
   pub record AreTogether (contents : Contents T) (memory : MemoryState) (view : View) : Type 0 where
     pub memory_sound : IsSoundMemory memory
     pub view_sound : IsView view
@@ -36,3 +36,4 @@ module _ {T : Type 0} where
     pub share : ShareSegments contents memory.slots view.slots
     pub later : (number : ℕ) → memory.current < number → number < 256 →
         id_at contents (segment_path memory.settings memory.name number) ≡ None
+    pub mapped : EachHeld view.slots (λ number held. number ≤ memory.current)

@@ -33,11 +33,12 @@ pub fn an_arrival_of_what_is_out_is_not_refused<A>()
 /// A view's calls leave the allocator and the bytes of each segment of the memory.
 pub fn a_view_leaves_the_segments<A>()
     ensures arrived { (contents : Contents (Segment A)) (memory : MemoryState) (view : View) (number other : ℕ) →
-        AreTogether contents memory view → number < 256 →
+        AreTogether contents memory view → IsSome (segment_at memory.slots number) →
         segment_value (registry_after_arrival contents view number) memory.slots other
         ≡ segment_value contents memory.slots other }
     ensures given_back { (contents : Contents (Segment A)) (memory : MemoryState) (view : View) (number other : ℕ) →
         AreTogether contents memory view →
+        IsSomeAnd (segment_at view.slots number) (λ held. 0 < held.count) →
         segment_value (registry_after_return contents view number) memory.slots other
         ≡ segment_value contents memory.slots other }
 {}
