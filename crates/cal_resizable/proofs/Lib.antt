@@ -1,4 +1,5 @@
 mod AllocationLemmas
+mod AloneLemmas
 mod ChunkLemmas
 mod ClosingLemmas
 mod CreationLemmas

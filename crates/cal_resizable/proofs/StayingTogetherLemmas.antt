@@ -17,7 +17,7 @@ use Rattle.cal_shm.specs.Segment.{Segment, with_allocator, with_bytes}
 use Rattle.cal_resizable.specs.Growth.{OfSegment, AllocatesHere, AllocatesBy, AllocatesAfter, Allocates, TakesBack, growth_plan, hint_or_error, may_help, grows, made_segment, next_handle, grown_contents, grown_memory, with_chunk, after_return, returned_contents}
 use Rattle.cal_resizable.specs.Memory.{MemoryState, IsSoundMemory, HasAll, HoldsAll, NamesAll, KeepsOwn, segment_path}
 use Rattle.cal_resizable.specs.Slots.{Handle, Slots, HeldSegment, segment_at, with_more, with_less, count_in, count_at, without_unused, with_segment, after_retiring, EachHeld, EachHandle, IsHeldId, LeavesHandle, SparesHandles}
-use Rattle.cal_resizable.specs.Together.{AllFinished, ShareSegments, AreTogether}
+use Rattle.cal_resizable.specs.Together.{AllFinished, ShareSegments, NoneLater, AreTogether}
 use Rattle.cal_resizable.specs.View.{View, IsView, HasView}
 use Rattle.cal_resizable.specs.View as view_paths
 use Rattle.cal_resizable.specs.declared.errors.ResizableShmAllocationError.{ResizableShmAllocationError}
@@ -59,12 +59,6 @@ decide_held (slot ∷ slots) id = elim (decide_held slots id) [
           (λ other is_held same. apart (ap (λ (h : HeldSegment). h.handle.id) (same_Some held other is_held) ∙ same))
           is.number is.held is.there is.same)
     ]
-
--- what the paths of a memory's later segments stand for
-abbrev pub NoneLater : {T : Type 0} → Contents T → MemoryState → Type 0
-NoneLater contents memory =
-    (number : ℕ) → memory.current < number → number < 256 →
-    id_at contents (segment_path memory.settings memory.name number) ≡ None
 
 -- a segment that a memory has now under a number that it had was there before
 abbrev pub HadSegments : MemoryState → MemoryState → Type 0
@@ -249,48 +243,72 @@ module _ {A C : Type 0} (rules : shm_allocator.Ghosts A C) (old : Contents (Segm
 
 module _ {A C : Type 0} (rules : shm_allocator.Ghosts A C) (old new : Contents (Segment A))
     (before after : MemoryState) (layout : SizeAndAlignment) (pointer : ℕ) where
-  by_growth : (refused last : Bool) (why other_why : ResizableShmAllocationError)
+  -- the next segment hands out a chunk
+  pub record AllocatesNext : Type 0 where
+    pub hint : SharedMemorySetupHint C
+    pub not_last : before.current ≢ 255
+    pub here : AllocatesHere rules (grown_contents rules old before hint) (grown_memory old before) layout pointer new
+        after
+
+  by_growth : (refused last : Bool) → (before.current == 255) ≡ last → (why other_why : ResizableShmAllocationError)
       (hint : Option (SharedMemorySetupHint C)) →
       AllocatesBy rules old before layout pointer new after
-      (if refused then Err why else if last then Err other_why else hint_or_error rules hint) →
-      (last ≡ false) × ((found : SharedMemorySetupHint C) ×
-      AllocatesHere rules (grown_contents rules old before found) (grown_memory old before) layout pointer new after)
-  by_growth true last why other_why hint by = absurd by
-  by_growth false true why other_why hint by = absurd by
-  by_growth false false why other_why None by = absurd by
-  by_growth false false why other_why (Some hint) by = (refl, (hint, by))
+      (if refused then Err why else if last then Err other_why else hint_or_error rules hint) → AllocatesNext
+  by_growth true last is why other_why hint by = absurd by
+  by_growth false true is why other_why hint by = absurd by
+  by_growth false false is why other_why None by = absurd by
+  by_growth false false is why other_why (Some hint) by = record {
+    hint = hint;
+    not_last = λ last. true≢false (sym (eq-eqb before.current 255 last) ∙ is);
+    here = by;
+  }
+
+  with_refusal : (allocator : A) (refusal : Option ShmAllocationError) →
+      AllocatesAfter rules old before layout pointer new after allocator refusal →
+      AllocatesHere rules old before layout pointer new after ⊎ AllocatesNext
+  with_refusal allocator None here = inl here
+  with_refusal allocator (Some refusal) by = inr (by_growth
+      (not (may_help refusal && (grows before.strategy && (rules.growth_raises_alignment
+      || nat_le layout.alignment (rules.properties allocator).max_alignment))))
+      (before.current == 255) refl (error.ShmAllocationError refusal) error.MaxReallocationsReached
+      (rules.resize_hint allocator layout before.strategy) by)
+
+  pub allocates-cases : Allocates rules old before layout pointer new after →
+      AllocatesHere rules old before layout pointer new after ⊎ AllocatesNext
+  allocates-cases = from_slot (segment_at before.slots before.current)
+    where
+      from_value : (value : Option (Segment A)) →
+          IsSomeAnd value (λ segment. AllocatesAfter rules old before layout pointer new after segment.allocator
+          (rules.refusal segment.allocator layout)) →
+          AllocatesHere rules old before layout pointer new after ⊎ AllocatesNext
+      from_value None is = absurd is
+      from_value (Some segment) is = with_refusal segment.allocator (rules.refusal segment.allocator layout) is
+
+      from_slot : (slot : Option HeldSegment) → IsSomeAnd slot (λ held. OfValue old held.handle.id (λ segment.
+          AllocatesAfter rules old before layout pointer new after segment.allocator
+          (rules.refusal segment.allocator layout))) →
+          AllocatesHere rules old before layout pointer new after ⊎ AllocatesNext
+      from_slot None is = absurd is
+      from_slot (Some held) is = from_value (value_of old held.handle.id) is
 
   pub AreTogether-allocated : Allocates rules old before layout pointer new after → (view : View) →
       KeepsOwn old before new after → SparesHandles old new before.slots after.slots → AreTogether old before view →
       AreTogether new after view
-  AreTogether-allocated allocates view own spares both =
-      let held = some_and (λ held. OfValue old held.handle.id (λ segment.
-      AllocatesAfter rules old before layout pointer new after segment.allocator
-      (rules.refusal segment.allocator layout))) (segment_at before.slots before.current) allocates in
-      with_value_there (value_of old held.0.handle.id) held.2
-    where
-      with_refusal : (allocator : A) (refusal : Option ShmAllocationError) →
-          AllocatesAfter rules old before layout pointer new after allocator refusal → AreTogether new after view
-      with_refusal allocator None here =
-          AreTogether-here rules old new before after layout pointer both.memory_sound here view own spares both
-      with_refusal allocator (Some refusal) by =
-          let grown = by_growth
-          (not (may_help refusal && (grows before.strategy && (rules.growth_raises_alignment
-          || nat_le layout.alignment (rules.properties allocator).max_alignment))))
-          (before.current == 255) (error.ShmAllocationError refusal) error.MaxReallocationsReached
-          (rules.resize_hint allocator layout before.strategy) by in
-          let sound = both.memory_sound in
-          let not_last : before.current ≢ 255 =
-          λ last. true≢false (sym (eq-eqb before.current 255 last) ∙ grown.0) in
-          AreTogether-grown rules old before grown.1.0 view both (omega (arith, sound.below, not_last)) new after layout
-          pointer grown.1.1 own spares
+  AreTogether-allocated allocates view own spares both = elim (allocates-cases allocates) [
+    | inl here ↦ AreTogether-here rules old new before after layout pointer both.memory_sound here view own spares both
+    | inr next ↦
+        let sound = both.memory_sound in
+        AreTogether-grown rules old before next.hint view both (omega (arith, sound.below, next.not_last)) new after
+        layout pointer next.here own spares
+  ]
 
-      with_value_there : (value : Option (Segment A)) →
-          IsSomeAnd value (λ segment. AllocatesAfter rules old before layout pointer new after segment.allocator
-          (rules.refusal segment.allocator layout)) → AreTogether new after view
-      with_value_there None is = absurd is
-      with_value_there (Some segment) is =
-          with_refusal segment.allocator (rules.refusal segment.allocator layout) is
+  -- the numbers of the segments only grow
+  pub numbers_grow : Allocates rules old before layout pointer new after →
+      (after.current ≡ before.current) ⊎ (after.current ≡ before.current + 1)
+  numbers_grow allocates = elim (allocates-cases allocates) [
+    | inl here ↦ inl (ap (λ (m : MemoryState). m.current) here.counted)
+    | inr next ↦ let here = next.here in inr (ap (λ (m : MemoryState). m.current) here.counted)
+  ]
 
 -- ---- a chunk is taken back
 

@@ -20,6 +20,22 @@ module _ {T : Type 0} where
       (number : ℕ) (one other : HeldSegment) → segment_at ours number ≡ Some one →
       segment_at theirs number ≡ Some other → (other.handle.id ≡ one.handle.id) × Holds contents 2 one.handle
 
+  -- no path of a segment that is still to come stands for anything
+  abbrev pub NoneLater : Contents T → MemoryState → Type 0
+  NoneLater contents memory =
+      (number : ℕ) → memory.current < number → number < 256 →
+      id_at contents (segment_path memory.settings memory.name number) ≡ None
+
+  -- The registry has the entries of a memory, which no view has opened yet. It counts a holder for each, and their paths
+  -- stand for them. Every entry is finished, and no path of a segment that is still to come stands for anything.
+  pub record IsAlone (contents : Contents T) (memory : MemoryState) : Type 0 where
+    pub sound : IsSoundMemory memory
+    pub has : HasAll contents memory
+    pub holds : HoldsAll contents memory
+    pub names : NamesAll contents memory
+    pub finished : AllFinished contents
+    pub later : NoneLater contents memory
+
   -- The registry has the entries of a memory and of a view of it. It counts a holder for each of the memory's, and the
   -- paths of these stand for them; what both have they share. Every entry is finished. No path of a segment that is still
   -- to come stands for anything, and the view has none.
@@ -34,6 +50,5 @@ module _ {T : Type 0} where
     pub names : NamesAll contents memory
     pub finished : AllFinished contents
     pub share : ShareSegments contents memory.slots view.slots
-    pub later : (number : ℕ) → memory.current < number → number < 256 →
-        id_at contents (segment_path memory.settings memory.name number) ≡ None
+    pub later : NoneLater contents memory
     pub mapped : EachHeld view.slots (λ number held. number ≤ memory.current)

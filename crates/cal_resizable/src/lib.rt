@@ -14,6 +14,7 @@ mod lending;
 mod management;
 mod memory;
 mod memory_builder;
+pub mod memory_laws;
 pub mod name_laws;
 pub mod names;
 mod place;

@@ -3,17 +3,41 @@
 ghost use Rattle.std.specs.Prelude.{◌≡◌, ℕ, ◌<◌, Bool, Some, None, IsSome, IsSomeAnd, List};
 ghost use Rattle.cal_alloc.specs.PointerOffset.{pointer_offset, offset_of, segment_of};
 ghost use Rattle.cal_alloc.specs.SizeAndAlignment.{SizeAndAlignment};
-ghost use Rattle.cal_storage.specs.Contents.{Contents, id_at};
+ghost use Rattle.cal_storage.specs.Contents.{Contents, id_at, nothing_registered, after_opening};
 ghost use Rattle.cal_shm.specs.Calls.{with_written};
+ghost use Rattle.cal_names.specs.FileName.{IsFileName};
+ghost use Rattle.cal_shm.specs.Plan.{path_of};
 ghost use Rattle.cal_shm.specs.Segment.{Segment, with_bytes};
 ghost use Rattle.cal_resizable.specs.Chunks.{segment_value};
+ghost use Rattle.cal_resizable.specs.Creation.{MemoryPlan, CreatesMemory};
 ghost use Rattle.cal_resizable.specs.Growth.{Allocates, TakesBack};
 ghost use Rattle.cal_resizable.specs.Memory.{MemoryState, KeepsOwn};
 ghost use Rattle.cal_resizable.specs.Slots.{SparesHandles, segment_at, count_at};
-ghost use Rattle.cal_resizable.specs.Together.{AreTogether};
-ghost use Rattle.cal_resizable.specs.View.{View, segment_path, view_after_arrival, registry_after_arrival, unregistering, registry_after_return, arrival_refusal};
+ghost use Rattle.cal_resizable.specs.Together.{AllFinished, NoneLater, IsAlone, AreTogether};
+ghost use Rattle.cal_resizable.specs.View.{View, ViewPlan, management_plan, new_view, opening_refusal, segment_path, view_after_arrival, registry_after_arrival, unregistering, registry_after_return, arrival_refusal};
 
 use cal_alloc::ShmAllocator;
+
+/// What a creation over a new registry leaves: everything is finished there, and no path of a later segment stands for
+/// anything.
+pub fn a_new_memory_stands_alone<A: ShmAllocator>()
+    ensures finished { (plan : MemoryPlan) (new : Contents (Segment A)) (memory : MemoryState) →
+        CreatesMemory A.ShmAllocator.own nothing_registered plan new memory → AllFinished new }
+    ensures later { (plan : MemoryPlan) (new : Contents (Segment A)) (memory : MemoryState) → IsFileName plan.name →
+        CreatesMemory A.ShmAllocator.own nothing_registered plan new memory → NoneLater new memory }
+{}
+
+/// A view of a memory that stands alone is opened, where there is room for its segments, and is together with the
+/// memory then.
+pub fn a_view_opens_what_was_created<A>()
+    ensures opens { (checks_version : Bool) (contents : Contents (Segment A)) (memory : MemoryState) (plan : ViewPlan) →
+        IsAlone contents memory → plan.name ≡ memory.name → plan.settings ≡ memory.settings →
+        opening_refusal checks_version contents plan ≡ None }
+    ensures together { (contents : Contents (Segment A)) (memory : MemoryState) (plan : ViewPlan) (id : ℕ) →
+        IsAlone contents memory → IsFileName plan.name → plan.name ≡ memory.name → plan.settings ≡ memory.settings →
+        id_at contents (path_of (management_plan plan)) ≡ Some id →
+        AreTogether (after_opening contents id) memory (new_view plan id) }
+{}
 
 /// An offset of an active segment of a memory is never refused by a view of it: the segment is mapped, or its path
 /// stands for it. A segment that both have is the same.
