@@ -168,13 +168,13 @@ closing-view contents new view whole same is has_whole keeps =
 
 -- ---- what a close leaves
 
-module _ {T : Type 0} where
-  elsewhere-same : (one other : Handle) → one.id ≡ other.id → (handles : List Handle) → AreElsewhere one handles →
-      AreElsewhere other handles
-  elsewhere-same one other same [] apart = tt
-  elsewhere-same one other same (handle ∷ handles) apart =
-      (λ is. apart.0 (is ∙ sym same), elsewhere-same one other same handles apart.1)
+elsewhere-same : (one other : Handle) → one.id ≡ other.id → (handles : List Handle) → AreElsewhere one handles →
+    AreElsewhere other handles
+elsewhere-same one other same [] apart = tt
+elsewhere-same one other same (handle ∷ handles) apart =
+    (λ is. apart.0 (is ∙ sym same), elsewhere-same one other same handles apart.1)
 
+module _ {T : Type 0} where
   module _ (contents : Contents T) (sound : IsSound contents) (closing : Handle) (handles : List Handle)
       (can : CanClose contents (closing ∷ handles)) where
     abbrev left : Contents T

@@ -6,7 +6,7 @@ use Rattle.std.proofs.lemmas.Option.{none-some, same_Some}
 use Rattle.cal_storage.specs.declared.entry.Entry.{Entry}
 use Rattle.cal_storage.specs.declared.entry.Slot.{Slot}
 use Rattle.cal_storage.specs.declared.entry.Slot.TheVariants.{Ended, Kept}
-use Rattle.cal_storage.specs.Contents.{Contents, is_path, is_named, entry_in, slot_with_holder_less, slot_if_used, one_less, id_at, slot_of, entry_of, with_slot, without_name, without_own_name, after_creation, after_opening, after_close, with_value}
+use Rattle.cal_storage.specs.Contents.{Contents, is_path, is_named, entry_in, slot_with_holder_less, slot_if_used, one_less, id_at, slot_of, entry_of, value_of, with_slot, without_name, without_own_name, after_creation, after_opening, after_close, with_value}
 use Rattle.cal_storage.specs.ContentsLaws.{MakesEntry, ChangesEntry, LeavesOthers, one_holder_more}
 use Rattle.cal_storage.specs.EntryLemmas.{after_creation-MakesEntry, after_creation-LeavesOthers, after_opening-ChangesEntry, with_value-ChangesEntry}
 use Rattle.cal_storage.specs.Refusals.{finished_version}
@@ -107,6 +107,33 @@ module _ {T : Type 0} where
       | inr apart ↦ finished other is (sym (entry_of-after_close-other contents handle other apart) ∙ there)
     ]
 
+    -- a value that is there still is as it was
+    left_value : (stays : Bool) (slot : Slot T) (value : T) →
+        option_map (λ (entry : Entry T). entry.value) (entry_in (slot_if_used stays (slot_with_holder_less slot)))
+        ≡ Some value → option_map (λ (entry : Entry T). entry.value) (entry_in slot) ≡ Some value
+    left_value stays Ended value there = absurd (none-some value there)
+    left_value stays (Kept was) value there =
+        by_test (not stays && one_less was.holders == 0) there
+      where
+        by_test : (test : Bool) → option_map (λ (entry : Entry T). entry.value)
+            (entry_in (if test then Ended else Kept (record was { holders = one_less was.holders }))) ≡ Some value →
+            Some was.value ≡ Some value
+        by_test true there = absurd (none-some value there)
+        by_test false there = there
+
+    pub value-after_close : (id : ℕ) (value : T) → value_of (after_close contents handle) id ≡ Some value →
+        value_of contents id ≡ Some value
+    value-after_close id value there = elim (cases_eq id handle.id) [
+      | inl same ↦
+          ap (value_of contents) same
+          ∙ left_value (is_named contents handle && not handle.is_owner) (slot_of contents handle.id) value
+          (ap (option_map (λ (entry : Entry T). entry.value)) (sym left_entry)
+          ∙ ap (value_of (after_close contents handle)) (sym same) ∙ there)
+      | inr apart ↦
+          ap (option_map (λ (entry : Entry T). entry.value))
+          (sym (entry_of-after_close-other contents handle id apart)) ∙ there
+    ]
+
     -- what stood for nothing does so still
     lookup_parts : (found : Bool) (id : ℕ) (rest : Option ℕ) → (if found then Some id else rest) ≡ None →
         (found ≡ false) × (rest ≡ None)
@@ -146,6 +173,16 @@ module _ {T : Type 0} where
       by_test : (test : Bool) → AllFinished (if test then after_close contents held.handle else contents)
       by_test true = AllFinished-after_close contents held.handle finished
       by_test false = finished
+
+  pub value-after_retiring : (contents : Contents T) (slot : Option HeldSegment) (id : ℕ) (value : T) →
+      value_of (after_retiring contents slot) id ≡ Some value → value_of contents id ≡ Some value
+  value-after_retiring contents None id value there = there
+  value-after_retiring contents (Some held) id value there = by_test (held.count == 0) there
+    where
+      by_test : (test : Bool) → value_of (if test then after_close contents held.handle else contents) id ≡ Some value →
+          value_of contents id ≡ Some value
+      by_test true there = value-after_close contents held.handle id value there
+      by_test false there = there
 
   pub none-after_retiring : (contents : Contents T) (slot : Option HeldSegment) (path : List ℕ) →
       id_at contents path ≡ None → id_at (after_retiring contents slot) path ≡ None

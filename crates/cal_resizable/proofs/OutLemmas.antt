@@ -10,7 +10,7 @@ use Rattle.cal_alloc.specs.declared.shm_allocator.ShmAllocator as shm_allocator
 use Rattle.cal_storage.specs.Contents.{Contents}
 use Rattle.cal_shm.specs.Calls.{IsInPayload}
 use Rattle.cal_shm.specs.Segment.{Segment, with_allocator}
-use Rattle.cal_resizable.specs.Chunks.{Chunk, AreDisjoint, NoneOverlap, number_within, without_chunk, value_in, segment_value, GrowsTo, GivesChunk, ReturnsChunk, IsOut, AreOut, AddsChunk, RemovesChunk}
+use Rattle.cal_resizable.specs.Chunks.{Chunk, AreDisjoint, NoneOverlap, one_where, number_within, without_chunk, value_in, segment_value, GrowsTo, GivesChunk, ReturnsChunk, IsOut, AreOut, AddsSized, RemovesChunk}
 use Rattle.cal_resizable.specs.Memory.{MemoryState}
 use Rattle.cal_resizable.specs.Slots.{Slots, HeldSegment, segment_at, count_in, count_at, without_unused, without_segment}
 use Rattle.cal_resizable.proofs.ChunkLemmas.{offset_back}
@@ -22,13 +22,13 @@ use Rattle.cal_resizable.proofs.SlotLemmas.{segment_at-set-same, segment_at-set-
 
 module _ {X : Type 0} where
   pub all-map : (P Q : X → Type 0) (xs : List X) → ((x : X) → P x → Q x) → AllByRecursion P xs → AllByRecursion Q xs
-  all-map P Q [] then all = tt
-  all-map P Q (x ∷ xs) then all = (then x all.0, all-map P Q xs then all.1)
+  all-map P Q [] step all = tt
+  all-map P Q (x ∷ xs) step all = (step x all.0, all-map P Q xs step all.1)
 
   pub all-both : (P Q R : X → Type 0) (xs : List X) → ((x : X) → P x → Q x → R x) → AllByRecursion P xs →
       AllByRecursion Q xs → AllByRecursion R xs
-  all-both P Q R [] then ps qs = tt
-  all-both P Q R (x ∷ xs) then ps qs = (then x ps.0 qs.0, all-both P Q R xs then ps.1 qs.1)
+  all-both P Q R [] step ps qs = tt
+  all-both P Q R (x ∷ xs) step ps qs = (step x ps.0 qs.0, all-both P Q R xs step ps.1 qs.1)
 
   pub all-at : (P : X → Type 0) (xs : List X) (index : ℕ) (x : X) → slice_get xs index ≡ Some x →
       AllByRecursion P xs → P x
@@ -62,11 +62,11 @@ disjoint-at (first ∷ chunks) (suc index) chunk at apart = (
   disjoint-at chunks index chunk at apart.1,
 )
 
-one_if : (number other : ℕ) → number ≡ other → (if number == other then 1 else 0) ≡ 1
-one_if number other same = ap (λ b. if b then 1 else 0) (eq-eqb number other same)
+one_if : (number other : ℕ) → number ≡ other → one_where (number == other) ≡ 1
+one_if number other same = ap one_where (eq-eqb number other same)
 
-none_if : (number other : ℕ) → number ≢ other → (if number == other then 1 else 0) ≡ 0
-none_if number other apart = ap (λ b. if b then 1 else 0) (ne_eqb number other apart)
+none_if : (number other : ℕ) → number ≢ other → one_where (number == other) ≡ 0
+none_if number other apart = ap one_where (ne_eqb number other apart)
 
 within_first : (chunk : Chunk) (chunks : List Chunk) → 0 < number_within (segment_of chunk.pointer) (chunk ∷ chunks)
 within_first chunk chunks = omega (arith, one_if (segment_of chunk.pointer) (segment_of chunk.pointer) refl)
@@ -90,10 +90,10 @@ counted-at chunks index chunk at =
 counted-without : (chunks : List Chunk) (index : ℕ) (chunk : Chunk) (number : ℕ) →
     slice_get chunks index ≡ Some chunk →
     number_within number chunks
-    ≡ (if segment_of chunk.pointer == number then 1 else 0) + number_within number (without_chunk index chunks)
+    ≡ one_where (segment_of chunk.pointer == number) + number_within number (without_chunk index chunks)
 counted-without [] index chunk number at = absurd (none-some chunk at)
 counted-without (first ∷ chunks) zero chunk number at =
-    ap (λ (c : Chunk). (if segment_of c.pointer == number then 1 else 0) + number_within number chunks)
+    ap (λ (c : Chunk). one_where (segment_of c.pointer == number) + number_within number chunks)
     (same_Some first chunk at)
 counted-without (first ∷ chunks) (suc index) chunk number at =
     omega (arith, counted-without chunks index chunk number at)
@@ -153,33 +153,34 @@ module _ {A C : Type 0} (rules : shm_allocator.Ghosts A C) where
   -- where the segment of a chunk is as it was
   same-IsOut : (old new : Contents (Segment A)) (before after : Slots) (chunk : Chunk) →
       segment_value new after (segment_of chunk.pointer) ≡ segment_value old before (segment_of chunk.pointer) →
-      IsOut rules old before chunk → IsOut rules new after chunk
+      IsOut rules.properties rules.IsByteUsed rules.IsAllocated old before chunk → IsOut rules.properties rules.IsByteUsed rules.IsAllocated new after chunk
   same-IsOut old new before after chunk is out = record {
     segment = out.segment;
     there = is ∙ out.there;
     allocated = out.allocated;
     sized = out.sized;
     not_empty = out.not_empty;
+    large = out.large;
     taken = out.taken;
     within = out.within;
   }
 
   -- chunks that are out lie in segments that are counted
   out_and_counted : (contents : Contents (Segment A)) (slots : Slots) (chunks : List Chunk) →
-      AreOut rules contents slots chunks →
-      AllByRecursion (λ chunk. IsOut rules contents slots chunk × (0 < count_at slots (segment_of chunk.pointer)))
+      AreOut rules.properties rules.IsByteUsed rules.IsAllocated contents slots chunks →
+      AllByRecursion (λ chunk. IsOut rules.properties rules.IsByteUsed rules.IsAllocated contents slots chunk × (0 < count_at slots (segment_of chunk.pointer)))
       chunks
   out_and_counted contents slots chunks out =
-      all-both (IsOut rules contents slots) (λ chunk. 0 < number_within (segment_of chunk.pointer) chunks)
-      (λ chunk. IsOut rules contents slots chunk × (0 < count_at slots (segment_of chunk.pointer))) chunks
+      all-both (IsOut rules.properties rules.IsByteUsed rules.IsAllocated contents slots) (λ chunk. 0 < number_within (segment_of chunk.pointer) chunks)
+      (λ chunk. IsOut rules.properties rules.IsByteUsed rules.IsAllocated contents slots chunk × (0 < count_at slots (segment_of chunk.pointer))) chunks
       (λ chunk is counted. (is, omega (arith, counted, out.counted (segment_of chunk.pointer))))
       out.each (each_counted chunks chunks (λ number. omega arith))
 
   pub AreOut-elsewhere : (old new : Contents (Segment A)) (slots : Slots) (chunks : List Chunk) →
       ((number : ℕ) → segment_value new slots number ≡ segment_value old slots number) →
-      AreOut rules old slots chunks → AreOut rules new slots chunks
+      AreOut rules.properties rules.IsByteUsed rules.IsAllocated old slots chunks → AreOut rules.properties rules.IsByteUsed rules.IsAllocated new slots chunks
   AreOut-elsewhere old new slots chunks same out = record {
-    each = all-map (IsOut rules old slots) (IsOut rules new slots) chunks
+    each = all-map (IsOut rules.properties rules.IsByteUsed rules.IsAllocated old slots) (IsOut rules.properties rules.IsByteUsed rules.IsAllocated new slots) chunks
         (λ chunk. same-IsOut old new slots slots chunk (same (segment_of chunk.pointer))) out.each;
     apart = out.apart;
     counted = out.counted;
@@ -204,8 +205,8 @@ module _ {A C : Type 0} (rules : shm_allocator.Ghosts A C) where
     ]
 
     grown_out : (chunk : Chunk) →
-        IsOut rules old before.slots chunk × (0 < count_at before.slots (segment_of chunk.pointer)) →
-        IsOut rules new after.slots chunk
+        IsOut rules.properties rules.IsByteUsed rules.IsAllocated old before.slots chunk × (0 < count_at before.slots (segment_of chunk.pointer)) →
+        IsOut rules.properties rules.IsByteUsed rules.IsAllocated new after.slots chunk
     grown_out chunk is =
         let number : ℕ = segment_of chunk.pointer in
         let apart : number ≢ next = λ same.
@@ -215,11 +216,11 @@ module _ {A C : Type 0} (rules : shm_allocator.Ghosts A C) where
         (grows.others.values number apart
         ∙ ap (λ slot. value_in old slot) (counted-without_unused before.slots before.current number is.1)) is.0
 
-    pub AreOut-grown : (chunks : List Chunk) → AreOut rules old before.slots chunks → AreOut rules new after.slots chunks
+    pub AreOut-grown : (chunks : List Chunk) → AreOut rules.properties rules.IsByteUsed rules.IsAllocated old before.slots chunks → AreOut rules.properties rules.IsByteUsed rules.IsAllocated new after.slots chunks
     AreOut-grown chunks out = record {
       each = all-map
-          (λ chunk. IsOut rules old before.slots chunk × (0 < count_at before.slots (segment_of chunk.pointer)))
-          (IsOut rules new after.slots) chunks grown_out (out_and_counted old before.slots chunks out);
+          (λ chunk. IsOut rules.properties rules.IsByteUsed rules.IsAllocated old before.slots chunk × (0 < count_at before.slots (segment_of chunk.pointer)))
+          (IsOut rules.properties rules.IsByteUsed rules.IsAllocated new after.slots) chunks grown_out (out_and_counted old before.slots chunks out);
       apart = out.apart;
       counted = λ number. grown_count number ∙ out.counted number;
     }
@@ -247,12 +248,12 @@ module _ {A C : Type 0} (rules : shm_allocator.Ghosts A C) (allocation : (old : 
   at_pointer = ap (segment_value new after) gives.carries ∙ gives.becomes
 
   -- the segment of a chunk that was out, where that is the one that gave another
-  was_there : (chunk : Chunk) (out : IsOut rules old before chunk) → segment_of chunk.pointer ≡ number →
+  was_there : (chunk : Chunk) (out : IsOut rules.properties rules.IsByteUsed rules.IsAllocated old before chunk) → segment_of chunk.pointer ≡ number →
       out.segment ≡ gives.was
   was_there chunk out same =
       same_Some out.segment gives.was (sym out.there ∙ ap (segment_value old before) same ∙ gives.origin)
 
-  given_out : (chunk : Chunk) → IsOut rules old before chunk → IsOut rules new after chunk
+  given_out : (chunk : Chunk) → IsOut rules.properties rules.IsByteUsed rules.IsAllocated old before chunk → IsOut rules.properties rules.IsByteUsed rules.IsAllocated new after chunk
   given_out chunk out = elim (cases_eq (segment_of chunk.pointer) number) [
     | inl same ↦
         let is : out.segment ≡ gives.was = was_there chunk out same in
@@ -266,6 +267,7 @@ module _ {A C : Type 0} (rules : shm_allocator.Ghosts A C) (allocation : (old : 
               ∙ subst (λ (s : Segment A). chunk_size (rules.properties s.allocator) chunk.layout ≡ chunk.size) is
               out.sized;
           not_empty = out.not_empty;
+          large = out.large;
           taken = λ byte inside. law.bytes.others_used byte
               (subst (λ (s : Segment A). rules.IsByteUsed s.allocator byte) is (out.taken byte inside));
           within = subst (λ (s : Segment A). IsInPayload s.payload (offset_of chunk.pointer) chunk.size) is out.within;
@@ -274,7 +276,8 @@ module _ {A C : Type 0} (rules : shm_allocator.Ghosts A C) (allocation : (old : 
         same-IsOut rules old new before after chunk (gives.others.values (segment_of chunk.pointer) apart) out
   ]
 
-  module _ (size : ℕ) (sized_left : chunk_size (rules.properties gives.left) layout ≡ size) (some : 0 < size) where
+  module _ (size : ℕ) (sized_left : chunk_size (rules.properties gives.left) layout ≡ size) (some : 0 < size)
+      (large : layout.size ≤ size) where
     abbrev given_chunk : Chunk
     given_chunk = record { pointer = pointer; layout = layout; size = size }
 
@@ -286,28 +289,29 @@ module _ {A C : Type 0} (rules : shm_allocator.Ghosts A C) (allocation : (old : 
     inside_was byte inside =
         subst (λ s. IsInChunk place s byte) (sym sized_was) (in_segment pointer size byte inside)
 
-    chunk_out : IsOut rules new after given_chunk
+    chunk_out : IsOut rules.properties rules.IsByteUsed rules.IsAllocated new after given_chunk
     chunk_out = record {
       segment = segment;
       there = at_pointer;
       allocated = law.out;
       sized = sized_left;
       not_empty = some;
+      large = large;
       taken = λ byte inside. law.bytes.is_used_after byte (inside_was byte inside);
       within = subst (λ s. IsInPayload gives.was.payload (offset_of pointer) s) sized_was gives.within;
     }
 
-    disjoint_given : (chunk : Chunk) → IsOut rules old before chunk → AreDisjoint given_chunk chunk
+    disjoint_given : (chunk : Chunk) → IsOut rules.properties rules.IsByteUsed rules.IsAllocated old before chunk → AreDisjoint given_chunk chunk
     disjoint_given chunk out same byte inside in_chunk =
         law.bytes.was_free byte (inside_was byte inside)
         (subst (λ (s : Segment A). rules.IsByteUsed s.allocator byte)
         (was_there chunk out (sym same ∙ gives.carries)) (out.taken byte in_chunk))
 
-    given_count : (chunks : List Chunk) → AreOut rules old before chunks → (n : ℕ) →
+    given_count : (chunks : List Chunk) → AreOut rules.properties rules.IsByteUsed rules.IsAllocated old before chunks → (n : ℕ) →
         count_at after n ≡ number_within n (given_chunk ∷ chunks)
     given_count chunks out n = elim (cases_eq n number) [
       | inl same ↦
-          let once : (if segment_of pointer == n then 1 else 0) ≡ 1 =
+          let once : one_where (segment_of pointer == n) ≡ 1 =
           one_if (segment_of pointer) n (gives.carries ∙ sym same) in
           omega (
             arith,
@@ -318,24 +322,24 @@ module _ {A C : Type 0} (rules : shm_allocator.Ghosts A C) (allocation : (old : 
             ap (λ m. number_within m chunks) same,
           )
       | inr apart ↦
-          let not_here : (if segment_of pointer == n then 1 else 0) ≡ 0 =
+          let not_here : one_where (segment_of pointer == n) ≡ 0 =
           none_if (segment_of pointer) n (λ same. apart (sym same ∙ gives.carries)) in
           omega (arith, not_here, ap count_in (gives.others.slots n apart), out.counted n)
     ]
 
-    AreOut-given : (chunks : List Chunk) → AreOut rules old before chunks →
-        AreOut rules new after (given_chunk ∷ chunks)
+    AreOut-given : (chunks : List Chunk) → AreOut rules.properties rules.IsByteUsed rules.IsAllocated old before chunks →
+        AreOut rules.properties rules.IsByteUsed rules.IsAllocated new after (given_chunk ∷ chunks)
     AreOut-given chunks out = record {
-      each = (chunk_out, all-map (IsOut rules old before) (IsOut rules new after) chunks given_out out.each);
-      apart = (all-map (IsOut rules old before) (AreDisjoint given_chunk) chunks disjoint_given out.each, out.apart);
+      each = (chunk_out, all-map (IsOut rules.properties rules.IsByteUsed rules.IsAllocated old before) (IsOut rules.properties rules.IsByteUsed rules.IsAllocated new after) chunks given_out out.each);
+      apart = (all-map (IsOut rules.properties rules.IsByteUsed rules.IsAllocated old before) (AreDisjoint given_chunk) chunks disjoint_given out.each, out.apart);
       counted = given_count chunks out;
     }
 
-  pub AddsChunk-given : AddsChunk rules old before layout pointer new after
-  AddsChunk-given size chunks is at sized some out =
+  pub AddsSized-given : AddsSized rules.properties rules.IsByteUsed rules.IsAllocated old before layout pointer new after
+  AddsSized-given size chunks is at sized some large out =
       let same : is ≡ segment = same_Some is segment (sym at ∙ at_pointer) in
       AreOut-given size
-      (subst (λ (s : Segment A). chunk_size (rules.properties s.allocator) layout ≡ size) same sized) some chunks out
+      (subst (λ (s : Segment A). chunk_size (rules.properties s.allocator) layout ≡ size) same sized) some large chunks out
 
 -- ---- over a return
 
@@ -349,26 +353,26 @@ module _ {A C : Type 0} (rules : shm_allocator.Ghosts A C) (deallocation : (old 
   abbrev number : ℕ
   number = segment_of pointer
 
-  abbrev place : ℕ
-  place = pointer_offset (offset_of pointer) 0
+  abbrev return_place : ℕ
+  return_place = pointer_offset (offset_of pointer) 0
 
-  law : IsDeallocation (rules.properties returns.was.allocator) (rules.properties returns.left)
+  return_law : IsDeallocation (rules.properties returns.was.allocator) (rules.properties returns.left)
       (rules.IsByteUsed returns.was.allocator) (rules.IsByteUsed returns.left)
-      (rules.IsAllocated returns.was.allocator) (rules.IsAllocated returns.left) place
-  law = deallocation returns.was.allocator place returns.left returns.change
+      (rules.IsAllocated returns.was.allocator) (rules.IsAllocated returns.left) return_place
+  return_law = deallocation returns.was.allocator return_place returns.left returns.change
 
   module _ (index : ℕ) (chunk : Chunk) (chunks : List Chunk) (at : slice_get chunks index ≡ Some chunk)
-      (is_pointer : chunk.pointer ≡ pointer) (out : AreOut rules old before chunks) where
+      (is_pointer : chunk.pointer ≡ pointer) (out : AreOut rules.properties rules.IsByteUsed rules.IsAllocated old before chunks) where
     abbrev rest : List Chunk
     rest = without_chunk index chunks
 
-    returned : IsOut rules old before chunk
-    returned = all-at (IsOut rules old before) chunks index chunk at out.each
+    returned : IsOut rules.properties rules.IsByteUsed rules.IsAllocated old before chunk
+    returned = all-at (IsOut rules.properties rules.IsByteUsed rules.IsAllocated old before) chunks index chunk at out.each
 
     left_count : (n : ℕ) → count_at after n ≡ number_within n rest
     left_count n = elim (cases_eq n number) [
       | inl same ↦
-          let once : (if segment_of chunk.pointer == n then 1 else 0) ≡ 1 =
+          let once : one_where (segment_of chunk.pointer == n) ≡ 1 =
           one_if (segment_of chunk.pointer) n (ap segment_of is_pointer ∙ sym same) in
           omega (
             arith,
@@ -380,7 +384,7 @@ module _ {A C : Type 0} (rules : shm_allocator.Ghosts A C) (deallocation : (old 
             out.counted n,
           )
       | inr apart ↦
-          let not_here : (if segment_of chunk.pointer == n then 1 else 0) ≡ 0 =
+          let not_here : one_where (segment_of chunk.pointer == n) ≡ 0 =
           none_if (segment_of chunk.pointer) n (λ same. apart (sym same ∙ ap segment_of is_pointer)) in
           omega (
             arith,
@@ -393,11 +397,11 @@ module _ {A C : Type 0} (rules : shm_allocator.Ghosts A C) (deallocation : (old 
 
     -- what is known of another chunk
     abbrev Other : Chunk → Type 0
-    Other other = IsOut rules old before other × AreDisjoint chunk other
+    Other other = IsOut rules.properties rules.IsByteUsed rules.IsAllocated old before other × AreDisjoint chunk other
 
     not_in_chunk : (other : Chunk) → AreDisjoint chunk other → segment_of other.pointer ≡ number → (byte : ℕ) →
         IsInChunk other.pointer other.size byte →
-        ¬ IsInChunk place (chunk_size (rules.properties returns.was.allocator) chunk.layout) byte
+        ¬ IsInChunk return_place (chunk_size (rules.properties returns.was.allocator) chunk.layout) byte
     not_in_chunk other apart same byte inside in_place =
         let is : returned.segment ≡ returns.was =
         same_Some returned.segment returns.was
@@ -406,12 +410,12 @@ module _ {A C : Type 0} (rules : shm_allocator.Ghosts A C) (deallocation : (old 
         subst (λ (s : Segment A). chunk_size (rules.properties s.allocator) chunk.layout ≡ chunk.size) is
         returned.sized in
         let in_pointer : IsInChunk pointer chunk.size byte =
-        from_segment pointer chunk.size byte (subst (λ s. IsInChunk place s byte) sized in_place) in
+        from_segment pointer chunk.size byte (subst (λ s. IsInChunk return_place s byte) sized in_place) in
         apart (ap segment_of is_pointer ∙ sym same) byte
         (subst (λ p. IsInChunk p chunk.size byte) (sym is_pointer) in_pointer) inside
 
     other_start : (other : Chunk) → AreDisjoint chunk other → 0 < other.size → segment_of other.pointer ≡ number →
-        offset_of (pointer_offset (offset_of other.pointer) 0) ≢ offset_of place
+        offset_of (pointer_offset (offset_of other.pointer) 0) ≢ offset_of return_place
     other_start other apart some same is =
         let starts : offset_of other.pointer ≡ offset_of pointer =
         sym (offset_back (offset_of other.pointer) 0 (lit< tt)) ∙ is ∙ offset_back (offset_of pointer) 0 (lit< tt) in
@@ -423,10 +427,10 @@ module _ {A C : Type 0} (rules : shm_allocator.Ghosts A C) (deallocation : (old 
         (omega arith, omega (arith, some))
 
     left_out : (other : Chunk) → Other other → 0 < number_within (segment_of other.pointer) rest →
-        IsOut rules new after other
+        IsOut rules.properties rules.IsByteUsed rules.IsAllocated new after other
     left_out other is counted = elim (cases_eq (segment_of other.pointer) number) [
       | inl same ↦
-          let was : IsOut rules old before other = is.0 in
+          let was : IsOut rules.properties rules.IsByteUsed rules.IsAllocated old before other = is.0 in
           let same_segment : was.segment ≡ returns.was =
           same_Some was.segment returns.was (sym was.there ∙ ap (segment_value old before) same ∙ returns.origin) in
           let held = some_counted (segment_at after number)
@@ -435,16 +439,17 @@ module _ {A C : Type 0} (rules : shm_allocator.Ghosts A C) (deallocation : (old 
             segment = with_allocator returns.was returns.left;
             there = ap (segment_value new after) same
                 ∙ returns.still (is_some-from (segment_at after number) held.0 held.1);
-            allocated = law.others_allocated (pointer_offset (offset_of other.pointer) 0)
+            allocated = return_law.others_allocated (pointer_offset (offset_of other.pointer) 0)
                 (other_start other is.1 was.not_empty same)
                 (subst (λ (s : Segment A). rules.IsAllocated s.allocator
                 (pointer_offset (offset_of other.pointer) 0)) same_segment was.allocated);
-            sized = ap (λ p. chunk_size p other.layout) law.properties
+            sized = ap (λ p. chunk_size p other.layout) return_law.properties
                 ∙ subst (λ (s : Segment A). chunk_size (rules.properties s.allocator) other.layout ≡ other.size)
                 same_segment was.sized;
             not_empty = was.not_empty;
+            large = was.large;
             taken = λ byte inside.
-                let bytes = law.bytes chunk.layout in
+                let bytes = return_law.bytes chunk.layout in
                 bytes.others_used byte (not_in_chunk other is.1 same byte inside)
                 (subst (λ (s : Segment A). rules.IsByteUsed s.allocator byte) same_segment (was.taken byte inside));
             within = subst (λ (s : Segment A). IsInPayload s.payload (offset_of other.pointer) other.size) same_segment
@@ -455,16 +460,16 @@ module _ {A C : Type 0} (rules : shm_allocator.Ghosts A C) (deallocation : (old 
     ]
 
     others : AllByRecursion Other rest
-    others = all-both (IsOut rules old before) (AreDisjoint chunk) Other rest (λ other is apart. (is, apart))
-        (all-without (IsOut rules old before) chunks index out.each) (disjoint-at chunks index chunk at out.apart)
+    others = all-both (IsOut rules.properties rules.IsByteUsed rules.IsAllocated old before) (AreDisjoint chunk) Other rest (λ other is apart. (is, apart))
+        (all-without (IsOut rules.properties rules.IsByteUsed rules.IsAllocated old before) chunks index out.each) (disjoint-at chunks index chunk at out.apart)
 
-    AreOut-returned : AreOut rules new after rest
+    AreOut-returned : AreOut rules.properties rules.IsByteUsed rules.IsAllocated new after rest
     AreOut-returned = record {
-      each = all-both Other (λ other. 0 < number_within (segment_of other.pointer) rest) (IsOut rules new after) rest
+      each = all-both Other (λ other. 0 < number_within (segment_of other.pointer) rest) (IsOut rules.properties rules.IsByteUsed rules.IsAllocated new after) rest
           left_out others (each_counted rest rest (λ n. omega arith));
       apart = overlap-without chunks index out.apart;
       counted = left_count;
     }
 
-  pub RemovesChunk-returned : RemovesChunk rules old before pointer new after
+  pub RemovesChunk-returned : RemovesChunk rules.properties rules.IsByteUsed rules.IsAllocated old before pointer new after
   RemovesChunk-returned index chunk chunks at is_pointer out = AreOut-returned index chunk chunks at is_pointer out

@@ -235,8 +235,8 @@ module _ {A : Type 0} (Change : A → A → Type 0) (old new : Contents (Segment
   abbrev was : Segment A
   was = takes.change.segment
 
-  abbrev left : A
-  left = takes.change.allocator
+  abbrev left_over : A
+  left_over = takes.change.allocator
 
   abbrev freed : Contents (Segment A)
   freed = takes.freed
@@ -253,24 +253,24 @@ module _ {A : Type 0} (Change : A → A → Type 0) (old new : Contents (Segment
   abbrev Returns : Contents (Segment A) → Slots → Type 0
   Returns contents slots = ReturnsChunk Change old before.slots number contents slots
 
-  freed_value : value_of freed held.handle.id ≡ Some (with_allocator was left)
+  freed_value : value_of freed held.handle.id ≡ Some (with_allocator was left_over)
   freed_value =
       ap (λ contents. value_of contents held.handle.id) takes.change.after
-      ∙ value_of-with_value-same old held.handle.id (with_allocator was left) held.handle refl
+      ∙ value_of-with_value-same old held.handle.id (with_allocator was left_over) held.handle refl
       (has.of_segments number held takes.there)
 
   freed_other : (other : ℕ) (h : HeldSegment) → other ≢ number → segment_at before.slots other ≡ Some h →
       value_of freed h.handle.id ≡ value_of old h.handle.id
   freed_other other h apart at =
       ap (λ contents. value_of contents h.handle.id) takes.change.after
-      ∙ value_of-with_value-other old held.handle.id (with_allocator was left) h.handle.id
+      ∙ value_of-with_value-other old held.handle.id (with_allocator was left_over) h.handle.id
       (sound.apart other number h held apart at takes.there)
 
   -- the segment stays
   stays : Returns freed less
   stays = record {
     was = was;
-    left = left;
+    left = left_over;
     origin = ap (value_in old) takes.there ∙ takes.change.was;
     change = takes.change.change;
     still = λ _. ap (value_in freed) less_is ∙ freed_value;
@@ -289,7 +289,7 @@ module _ {A : Type 0} (Change : A → A → Type 0) (old new : Contents (Segment
       ∙ segment_at-set-same before.slots number None (within_slots before.slots number held takes.there) in
       record {
         was = was;
-        left = left;
+        left = left_over;
         origin = ap (value_in old) takes.there ∙ takes.change.was;
         change = takes.change.change;
         still = λ active. absurd (false≢true (subst IsSome gone active));

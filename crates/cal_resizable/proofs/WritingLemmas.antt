@@ -82,17 +82,17 @@ module _ {A : Type 0} (contents : Contents (Segment A)) (id offset : ℕ) (writt
 
 module _ {A C : Type 0} (rules : shm_allocator.Ghosts A C) where
   pub AreOut-written : (contents : Contents (Segment A)) (slots : Slots) (id offset : ℕ) (written : List ℕ)
-      (chunks : List Chunk) → AreOut rules contents slots chunks →
-      AreOut rules (with_written with_bytes contents id offset written) slots chunks
+      (chunks : List Chunk) → AreOut rules.properties rules.IsByteUsed rules.IsAllocated contents slots chunks →
+      AreOut rules.properties rules.IsByteUsed rules.IsAllocated (with_written with_bytes contents id offset written) slots chunks
   AreOut-written contents slots id offset written chunks out = record {
-    each = all-map (IsOut rules contents slots)
-        (IsOut rules (with_written with_bytes contents id offset written) slots) chunks still out.each;
+    each = all-map (IsOut rules.properties rules.IsByteUsed rules.IsAllocated contents slots)
+        (IsOut rules.properties rules.IsByteUsed rules.IsAllocated (with_written with_bytes contents id offset written) slots) chunks still out.each;
     apart = out.apart;
     counted = out.counted;
   }
     where
-      still : (chunk : Chunk) → IsOut rules contents slots chunk →
-          IsOut rules (with_written with_bytes contents id offset written) slots chunk
+      still : (chunk : Chunk) → IsOut rules.properties rules.IsByteUsed rules.IsAllocated contents slots chunk →
+          IsOut rules.properties rules.IsByteUsed rules.IsAllocated (with_written with_bytes contents id offset written) slots chunk
       still chunk was =
           let is = alike contents id offset written was.segment (segment_at slots (segment_of chunk.pointer))
           was.there in
@@ -105,23 +105,33 @@ module _ {A C : Type 0} (rules : shm_allocator.Ghosts A C) where
                 was.allocated;
             sized = ap (λ a. chunk_size (rules.properties a) chunk.layout) same ∙ was.sized;
             not_empty = was.not_empty;
+            large = was.large;
             taken = λ byte inside. subst (λ a. rules.IsByteUsed a byte) (sym same) (was.taken byte inside);
             within = subst (λ n. offset_of chunk.pointer + chunk.size ≤ n) (sym as_many) was.within;
           }
 
   -- ---- a chunk that is out can come back
   module _ (contents : Contents (Segment A)) (slots : Slots) (chunks : List Chunk) (index : ℕ) (chunk : Chunk)
-      (at : slice_get chunks index ≡ Some chunk) (out : AreOut rules contents slots chunks) where
+      (at : slice_get chunks index ≡ Some chunk) (out : AreOut rules.properties rules.IsByteUsed rules.IsAllocated contents slots chunks) where
     pub out_counted : 0 < count_at slots (segment_of chunk.pointer)
     out_counted = omega (arith, counted-at chunks index chunk at, out.counted (segment_of chunk.pointer))
 
     pub out_allocated : OfSegment contents slots (segment_of chunk.pointer)
         (λ segment. rules.IsAllocated segment.allocator (pointer_offset (offset_of chunk.pointer) 0))
     out_allocated =
-        let is : IsOut rules contents slots chunk = all-at (IsOut rules contents slots) chunks index chunk at out.each in
+        let is : IsOut rules.properties rules.IsByteUsed rules.IsAllocated contents slots chunk = all-at (IsOut rules.properties rules.IsByteUsed rules.IsAllocated contents slots) chunks index chunk at out.each in
         value_of-segment contents slots (segment_of chunk.pointer)
         (λ segment. rules.IsAllocated segment.allocator (pointer_offset (offset_of chunk.pointer) 0)) is.segment
         is.there is.allocated
+
+    pub out_within : (count : ℕ) → count ≤ chunk.layout.size →
+        OfSegment contents slots (segment_of chunk.pointer)
+        (λ segment. IsInPayload segment.payload (offset_of chunk.pointer) count)
+    out_within count fits =
+        let is : IsOut rules.properties rules.IsByteUsed rules.IsAllocated contents slots chunk = all-at (IsOut rules.properties rules.IsByteUsed rules.IsAllocated contents slots) chunks index chunk at out.each in
+        value_of-segment contents slots (segment_of chunk.pointer)
+        (λ segment. IsInPayload segment.payload (offset_of chunk.pointer) count) is.segment is.there
+        (omega (arith, is.within, is.large, fits))
 
   -- ---- a new memory has none
 
@@ -137,7 +147,7 @@ module _ {A C : Type 0} (rules : shm_allocator.Ghosts A C) where
   ]
 
   pub none_out : (contents : Contents (Segment A)) (plan : MemoryPlan) (management first : Handle)
-      (memory : MemoryState) → memory ≡ memory_of plan management first → AreOut rules contents memory.slots []
+      (memory : MemoryState) → memory ≡ memory_of plan management first → AreOut rules.properties rules.IsByteUsed rules.IsAllocated contents memory.slots []
   none_out contents plan management first memory is = record {
     each = tt;
     apart = tt;

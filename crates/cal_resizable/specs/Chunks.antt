@@ -1,7 +1,7 @@
 -- The chunks of a growing memory that are out, and what a call leaves of them.
-use Rattle.std.specs.Prelude.{◌≡◌, ◌≢◌, ℕ, zero, suc, ◌+◌, ◌<◌, ◌==◌, Option, Some, None, IsSome, List, [], ◌∷◌, if◌then◌else◌}
+use Rattle.std.specs.Prelude.{◌≡◌, ◌≢◌, ℕ, zero, suc, ◌+◌, ◌<◌, ◌≤◌, ◌==◌, Bool, true, false, Option, Some, None, IsSome, List, [], ◌∷◌}
 use Rattle.std.specs.List.{AllByRecursion, slice_get}
-use Rattle.cal_alloc.specs.Chunks.{IsInChunk, chunk_size}
+use Rattle.cal_alloc.specs.Chunks.{Properties, IsInChunk, chunk_size}
 use Rattle.cal_alloc.specs.PointerOffset.{pointer_offset, offset_of, segment_of}
 use Rattle.cal_alloc.specs.SizeAndAlignment.{SizeAndAlignment}
 use Rattle.cal_alloc.specs.declared.shm_allocator.ShmAllocator as shm_allocator
@@ -30,10 +30,13 @@ NoneOverlap [] = Unit {0}
 NoneOverlap (chunk ∷ chunks) = AllByRecursion (AreDisjoint chunk) chunks × NoneOverlap chunks
 
 -- how many of these chunks lie in the segment of a number
+abbrev pub one_where : Bool → ℕ
+one_where true = 1
+one_where false = 0
+
 abbrev pub number_within : ℕ → List Chunk → ℕ
 number_within number [] = 0
-number_within number (chunk ∷ chunks) =
-    (if segment_of chunk.pointer == number then 1 else 0) + number_within number chunks
+number_within number (chunk ∷ chunks) = one_where (segment_of chunk.pointer == number) + number_within number chunks
 
 -- the chunks but the one at an index
 abbrev pub without_chunk : ℕ → List Chunk → List Chunk
@@ -95,15 +98,18 @@ module _ {A C : Type 0} (rules : shm_allocator.Ghosts A C) where
     pub one_more : count_at after number ≡ count_at before number + 1
     pub others : LeavesSegments old before number new after
 
-  -- A chunk is out: its segment is active and has handed it out, it isn't empty, all its bytes are taken, and they lie
-  -- within the payload.
+-- of an allocator: what it has beside its chunks, which bytes are taken, and at which pointers a chunk is out
+module _ {A : Type 0} (properties : A → Properties) (IsByteUsed IsAllocated : A → ℕ → Type 0) where
+  -- A chunk is out: its segment is active and has handed it out, it isn't empty, it is as large as was asked for at least,
+  -- all its bytes are taken, and they lie within the payload.
   pub record IsOut (contents : Contents (Segment A)) (slots : Slots) (chunk : Chunk) : Type 0 where
     pub segment : Segment A
     pub there : segment_value contents slots (segment_of chunk.pointer) ≡ Some segment
-    pub allocated : rules.IsAllocated segment.allocator (pointer_offset (offset_of chunk.pointer) 0)
-    pub sized : chunk_size (rules.properties segment.allocator) chunk.layout ≡ chunk.size
+    pub allocated : IsAllocated segment.allocator (pointer_offset (offset_of chunk.pointer) 0)
+    pub sized : chunk_size (properties segment.allocator) chunk.layout ≡ chunk.size
     pub not_empty : 0 < chunk.size
-    pub taken : (byte : ℕ) → IsInChunk chunk.pointer chunk.size byte → rules.IsByteUsed segment.allocator byte
+    pub large : chunk.layout.size ≤ chunk.size
+    pub taken : (byte : ℕ) → IsInChunk chunk.pointer chunk.size byte → IsByteUsed segment.allocator byte
     pub within : IsInPayload segment.payload (offset_of chunk.pointer) chunk.size
 
   -- These chunks are out, no two of them overlap, and each segment is counted once for each of them that lies in it.
@@ -112,14 +118,21 @@ module _ {A C : Type 0} (rules : shm_allocator.Ghosts A C) where
     pub apart : NoneOverlap chunks
     pub counted : (number : ℕ) → count_at slots number ≡ number_within number chunks
 
-  -- A chunk of a layout was handed out at a pointer: with any chunks that were out it is out then, and each of them is
-  -- out still.
+  -- A chunk of a layout was handed out at a pointer, of this size in its segment: with any chunks that were out it is out
+  -- then, and each of them is out still.
+  abbrev pub AddsSized : Contents (Segment A) → Slots → SizeAndAlignment → ℕ → Contents (Segment A) → Slots → Type 0
+  AddsSized old before layout pointer new after =
+      (size : ℕ) (chunks : List Chunk) (segment : Segment A) →
+      segment_value new after (segment_of pointer) ≡ Some segment →
+      chunk_size (properties segment.allocator) layout ≡ size → 0 < size → layout.size ≤ size →
+      AreOut old before chunks → AreOut new after (record { pointer = pointer; layout = layout; size = size } ∷ chunks)
+
+  -- A chunk of a layout was handed out at a pointer: where it was asked for a byte at least it is out then, with any chunks
+  -- that were out, and each of them is out still.
   abbrev pub AddsChunk : Contents (Segment A) → Slots → SizeAndAlignment → ℕ → Contents (Segment A) → Slots → Type 0
   AddsChunk old before layout pointer new after =
-      (size : ℕ) (chunks : List Chunk) → (segment : Segment A) →
-      segment_value new after (segment_of pointer) ≡ Some segment →
-      chunk_size (rules.properties segment.allocator) layout ≡ size → 0 < size → AreOut old before chunks →
-      AreOut new after (record { pointer = pointer; layout = layout; size = size } ∷ chunks)
+      (chunks : List Chunk) → 0 < layout.size → AreOut old before chunks →
+      (size : ℕ) × AreOut new after (record { pointer = pointer; layout = layout; size = size } ∷ chunks)
 
   -- The chunk at a pointer was taken back: of any chunks that were out, it is out no more, and each other is out still.
   abbrev pub RemovesChunk : Contents (Segment A) → Slots → ℕ → Contents (Segment A) → Slots → Type 0

@@ -2,7 +2,7 @@
 ghost use Rattle.std.specs.Prelude.{◌≡◌, ◌≢◌, ◌==◌, if◌then◌else◌, ◌<◌, ◌^◌, ◌+◌, ◌-◌, ◌++◌, ◌⊎◌, ◌≤◌, ◌∷◌, ℕ, Some, None, IsSome, IsSomeAnd, IfSome, IfOk, IfErr, OnOk, OnErr, slice_range};
 ghost use Rattle.std.specs.Result.{result_err};
 ghost use Rattle.cal_alloc.specs.PointerOffset.{pointer_offset, offset_of, segment_of};
-ghost use Rattle.cal_alloc.specs.Pool.{IsUsedBucket, FreesBucket};
+ghost use Rattle.cal_alloc.specs.Pool.{IsUsedBucket, IsInUsedBucket, FreesBucket, pool_properties};
 ghost use Rattle.cal_storage.specs.Contents.{Has};
 ghost use Rattle.cal_storage.specs.declared.handle.Handle.{Handle};
 ghost use Rattle.cal_shm.specs.Calls.{IsInPayload, IsChunkWithin};
@@ -302,7 +302,7 @@ impl<A: ShmAllocator, Shm: SharedMemory<A>> DynamicMemory<A, Shm> {
         ensures counted { OnOk result
             (count_at self.new.slots self.new.current ≤ count_at self.old.slots self.old.current + 1) }
         ensures stays_out { IfOk result (λ pointer.
-            AddsChunk A.ShmAllocator.own reg.old self.old.slots layout pointer.offset reg.new self.new.slots) }
+            AddsChunk A.properties A.IsByteUsed A.IsAllocated reg.old self.old.slots layout pointer.offset reg.new self.new.slots) }
         ensures serves { OnErr result (OfSegment reg.old self.old.slots self.old.current
             (λ segment. IsSome (A.refusal segment.allocator layout))) }
         ensures own { OnOk result (KeepsOwn reg.old self.old reg.new self.new) }
@@ -342,7 +342,7 @@ impl<A: ShmAllocator, Shm: SharedMemory<A>> DynamicMemory<A, Shm> {
         ensures freed { TakesBack (λ was is. A.Deallocates was (pointer_offset (offset_of offset) 0) is)
             reg.old self.old (segment_of offset) reg.new self.new }
         ensures stays_out {
-            RemovesChunk A.ShmAllocator.own reg.old self.old.slots offset reg.new self.new.slots }
+            RemovesChunk A.properties A.IsByteUsed A.IsAllocated reg.old self.old.slots offset reg.new self.new.slots }
         ensures own { KeepsOwn reg.old self.old reg.new self.new }
         ensures spares { SparesHandles reg.old reg.new self.old.slots self.new.slots }
     {
@@ -386,7 +386,7 @@ impl<Shm: SharedMemoryForPoolAllocator> DynamicMemory<PoolAllocator, Shm> {
             (λ segment. IsUsedBucket segment.allocator (pointer_offset (offset_of offset) 0)) }
         ensures freed { TakesBack (λ was is. FreesBucket was (pointer_offset (offset_of offset) 0) is)
             reg.old self.old (segment_of offset) reg.new self.new }
-        ensures stays_out { RemovesChunk ⟦<PoolAllocator as ShmAllocator>⟧ reg.old self.old.slots offset
+        ensures stays_out { RemovesChunk pool_properties IsInUsedBucket IsUsedBucket reg.old self.old.slots offset
             reg.new self.new.slots }
         ensures own { KeepsOwn reg.old self.old reg.new self.new }
         ensures spares { SparesHandles reg.old reg.new self.old.slots self.new.slots }

@@ -1,4 +1,4 @@
-use Rattle.std.proofs.Common.{sym, ap, subst, ◌∙◌}
+use Rattle.std.proofs.Common.{[], sym, ap, subst, ◌∙◌}
 use Rattle.cal_names.specs.FileName.{IsFileName}
 use Rattle.cal_resizable.specs.View.{management_name}
 use Rattle.cal_resizable.proofs.CreationLemmas.{CreatesMemory-by}
@@ -31,6 +31,6 @@ returns-in-Ok-new-clause-none_out g c =
     let management = c.in-Ok-initial_setup_hint.hint in
     let first = c.in-Ok.hint in
     ok_map c.make.result (MakesMemory R old c.args.self management first c.make.new.reg)
-    (λ memory. AreOut R c.make.new.reg memory.slots []) c.make.ensures.makes
+    (λ memory. AreOut R.properties R.IsByteUsed R.IsAllocated c.make.new.reg memory.slots []) c.make.ensures.makes
     (λ memory makes. none_out R c.make.new.reg c.args.self (management_handle old c.args.self)
     (first_handle (managed_contents R old c.args.self management) c.args.self) memory makes.is)
