@@ -107,86 +107,86 @@ opens-finished {A = A} checks contents plan entry fits found finished any_size =
 
 module _ {A : Type 0} (contents : Contents (Segment A)) (memory : MemoryState) (plan : ViewPlan)
     (alone : IsAlone contents memory) (name : plan.name ≡ memory.name) (settings : plan.settings ≡ memory.settings)
-    where
-  managed_rule : IsFileName (management_name plan.name)
-  managed_rule = let sound = alone.sound in
-      subst (λ base. IsFileName (base ++ codes "__mgmt")) (sym name) sound.name
+  where
+    managed_rule : IsFileName (management_name plan.name)
+    managed_rule = let sound = alone.sound in
+        subst (λ base. IsFileName (base ++ codes "__mgmt")) (sym name) sound.name
 
-  managed_fits : is_too_long plan.settings (management_name plan.name) ≡ false
-  managed_fits =
-      let sound = alone.sound in
-      ap (λ s. is_too_long s (plan.name ++ codes "__mgmt")) settings
-      ∙ ap (λ base. is_too_long memory.settings (base ++ codes "__mgmt")) name ∙ sound.fits
+    managed_fits : is_too_long plan.settings (management_name plan.name) ≡ false
+    managed_fits =
+        let sound = alone.sound in
+        ap (λ s. is_too_long s (plan.name ++ codes "__mgmt")) settings
+        ∙ ap (λ base. is_too_long memory.settings (base ++ codes "__mgmt")) name ∙ sound.fits
 
-  managed_path : path_of (management_plan plan) ≡ memory.management.path
-  managed_path =
-      let sound = alone.sound in
-      ap (λ s. file_path_for s (plan.name ++ codes "__mgmt")) settings
-      ∙ ap (λ base. file_path_for memory.settings (base ++ codes "__mgmt")) name ∙ sym sound.path
+    managed_path : path_of (management_plan plan) ≡ memory.management.path
+    managed_path =
+        let sound = alone.sound in
+        ap (λ s. file_path_for s (plan.name ++ codes "__mgmt")) settings
+        ∙ ap (λ base. file_path_for memory.settings (base ++ codes "__mgmt")) name ∙ sym sound.path
 
-  managed_id : id_at contents (path_of (management_plan plan)) ≡ Some memory.management.id
-  managed_id = let names = alone.names in ap (id_at contents) managed_path ∙ names.of_management
+    managed_id : id_at contents (path_of (management_plan plan)) ≡ Some memory.management.id
+    managed_id = let names = alone.names in ap (id_at contents) managed_path ∙ names.of_management
 
-  pub alone-opens : (checks : Bool) → opening_refusal checks contents plan ≡ None
-  alone-opens checks =
-      let has = alone.has in
-      let entry = has_entry contents memory.management has.of_management in
-      ap (λ found. if is_some found then open_refusal checks contents (management_plan plan)
-      else Some open_error.PathTooLong) (as_file_name_yes (management_name plan.name) managed_rule)
-      ∙ opens-finished checks contents (management_plan plan) entry.0 managed_fits
-      (ap (option_and_then (entry_of contents)) managed_id ∙ entry.1)
-      (alone.finished memory.management.id entry.0 entry.1) refl
+    pub alone-opens : (checks : Bool) → opening_refusal checks contents plan ≡ None
+    alone-opens checks =
+        let has = alone.has in
+        let entry = has_entry contents memory.management has.of_management in
+        ap (λ found. if is_some found then open_refusal checks contents (management_plan plan)
+        else Some open_error.PathTooLong) (as_file_name_yes (management_name plan.name) managed_rule)
+        ∙ opens-finished checks contents (management_plan plan) entry.0 managed_fits
+        (ap (option_and_then (entry_of contents)) managed_id ∙ entry.1)
+        (alone.finished memory.management.id entry.0 entry.1) refl
 
-  module _ (id : ℕ) (rule : IsFileName plan.name) (found : id_at contents (path_of (management_plan plan)) ≡ Some id)
+    module _ (id : ℕ) (rule : IsFileName plan.name) (found : id_at contents (path_of (management_plan plan)) ≡ Some id)
       where
-    abbrev view : View
-    view = new_view plan id
+        abbrev view : View
+        view = new_view plan id
 
-    abbrev opened : Contents (Segment A)
-    opened = after_opening contents id
+        abbrev opened : Contents (Segment A)
+        opened = after_opening contents id
 
-    same_id : memory.management.id ≡ id
-    same_id = same_Some memory.management.id id (sym managed_id ∙ found)
+        same_id : memory.management.id ≡ id
+        same_id = same_Some memory.management.id id (sym managed_id ∙ found)
 
-    leaves : (handle : Handle) → LeavesHandle contents opened handle
-    leaves = LeavesHandle-after_opening contents id
+        leaves : (handle : Handle) → LeavesHandle contents opened handle
+        leaves = LeavesHandle-after_opening contents id
 
-    has_found : Has contents (found_handle (path_of (management_plan plan)) id)
-    has_found =
-        let has = alone.has in
-        subst (λ i. IsSomeAnd (entry_of contents i)
-        (λ (entry : Entry (Segment A)). entry.path ≡ path_of (management_plan plan))) same_id
-        (subst (λ path. IsSomeAnd (entry_of contents memory.management.id)
-        (λ (entry : Entry (Segment A)). entry.path ≡ path)) (sym managed_path) has.of_management)
+        has_found : Has contents (found_handle (path_of (management_plan plan)) id)
+        has_found =
+            let has = alone.has in
+            subst (λ i. IsSomeAnd (entry_of contents i)
+            (λ (entry : Entry (Segment A)). entry.path ≡ path_of (management_plan plan))) same_id
+            (subst (λ path. IsSomeAnd (entry_of contents memory.management.id)
+            (λ (entry : Entry (Segment A)). entry.path ≡ path)) (sym managed_path) has.of_management)
 
-    none_mapped : (number : ℕ) (held : HeldSegment) → segment_at view.slots number ≡ Some held → ⊥
-    none_mapped number held there = none-some held (sym (segment_at-empty 256 number) ∙ there)
+        none_mapped : (number : ℕ) (held : HeldSegment) → segment_at view.slots number ≡ Some held → ⊥
+        none_mapped number held there = none-some held (sym (segment_at-empty 256 number) ∙ there)
 
-    pub alone-together : AreTogether opened memory view
-    alone-together =
-        let has = alone.has in
-        let holds = alone.holds in
-        let left_management = leaves memory.management in
-        let left_found = leaves (found_handle (path_of (management_plan plan)) id) in
-        record {
-          memory_sound = alone.sound;
-          view_sound = new-IsView plan.name plan.settings view.management view.slots rule managed_rule managed_fits refl
-              refl;
-          name = name;
-          settings = settings;
-          has_memory = record {
-            of_management = left_management.has has.of_management;
-            of_segments = λ number held at. let left = leaves held.handle in left.has (has.of_segments number held at);
-          };
-          has_view = new-HasView opened view plan id view.management refl refl (left_found.has has_found);
-          holds = record {
-            of_management = left_management.holds 1 (omega arith) (omega arith) holds.of_management;
-            of_segments = λ number held at. let left = leaves held.handle in
-                left.holds 1 (omega arith) (omega arith) (holds.of_segments number held at);
-          };
-          names = alone.names;
-          finished = AllFinished-after_opening contents id alone.finished;
-          share = λ number one other at_one at_other. absurd (none_mapped number other at_other);
-          later = alone.later;
-          mapped = λ number held at. absurd (none_mapped number held at);
-        }
+        pub alone-together : AreTogether opened memory view
+        alone-together =
+            let has = alone.has in
+            let holds = alone.holds in
+            let left_management = leaves memory.management in
+            let left_found = leaves (found_handle (path_of (management_plan plan)) id) in
+            record {
+              memory_sound = alone.sound;
+              view_sound = new-IsView plan.name plan.settings view.management view.slots rule managed_rule managed_fits refl
+                  refl;
+              name = name;
+              settings = settings;
+              has_memory = record {
+                of_management = left_management.has has.of_management;
+                of_segments = λ number held at. let left = leaves held.handle in left.has (has.of_segments number held at);
+              };
+              has_view = new-HasView opened view plan id view.management refl refl (left_found.has has_found);
+              holds = record {
+                of_management = left_management.holds 1 (omega arith) (omega arith) holds.of_management;
+                of_segments = λ number held at. let left = leaves held.handle in
+                    left.holds 1 (omega arith) (omega arith) (holds.of_segments number held at);
+              };
+              names = alone.names;
+              finished = AllFinished-after_opening contents id alone.finished;
+              share = λ number one other at_one at_other. absurd (none_mapped number other at_other);
+              later = alone.later;
+              mapped = λ number held at. absurd (none_mapped number held at);
+            }

@@ -3,7 +3,7 @@ use Rattle.std.proofs.Common.{◌≡◌, ◌≢◌, ℕ, zero, suc, ◌+◌, ◌
 use Rattle.std.specs.List.{AllByRecursion, slice_get}
 use Rattle.std.proofs.lemmas.Bool.{cases_eq}
 use Rattle.std.proofs.lemmas.Option.{none-some, same_Some}
-use Rattle.cal_alloc.specs.Chunks.{IsInChunk, IsAllocation, IsDeallocation, chunk_size}
+use Rattle.cal_alloc.specs.Chunks.{Properties, IsInChunk, IsAllocation, IsDeallocation, chunk_size}
 use Rattle.cal_alloc.specs.PointerOffset.{pointer_offset, offset_of, segment_of}
 use Rattle.cal_alloc.specs.SizeAndAlignment.{SizeAndAlignment}
 use Rattle.cal_alloc.specs.declared.shm_allocator.ShmAllocator as shm_allocator
@@ -149,11 +149,11 @@ module _ (slots : Slots) (number : ℕ) where
 
 -- ---- chunks that stay out
 
-module _ {A C : Type 0} (rules : shm_allocator.Ghosts A C) where
+module _ {A : Type 0} (properties : A → Properties) (IsByteUsed IsAllocated : A → ℕ → Type 0) where
   -- where the segment of a chunk is as it was
   same-IsOut : (old new : Contents (Segment A)) (before after : Slots) (chunk : Chunk) →
       segment_value new after (segment_of chunk.pointer) ≡ segment_value old before (segment_of chunk.pointer) →
-      IsOut rules.properties rules.IsByteUsed rules.IsAllocated old before chunk → IsOut rules.properties rules.IsByteUsed rules.IsAllocated new after chunk
+      IsOut properties IsByteUsed IsAllocated old before chunk → IsOut properties IsByteUsed IsAllocated new after chunk
   same-IsOut old new before after chunk is out = record {
     segment = out.segment;
     there = is ∙ out.there;
@@ -167,20 +167,20 @@ module _ {A C : Type 0} (rules : shm_allocator.Ghosts A C) where
 
   -- chunks that are out lie in segments that are counted
   out_and_counted : (contents : Contents (Segment A)) (slots : Slots) (chunks : List Chunk) →
-      AreOut rules.properties rules.IsByteUsed rules.IsAllocated contents slots chunks →
-      AllByRecursion (λ chunk. IsOut rules.properties rules.IsByteUsed rules.IsAllocated contents slots chunk × (0 < count_at slots (segment_of chunk.pointer)))
+      AreOut properties IsByteUsed IsAllocated contents slots chunks →
+      AllByRecursion (λ chunk. IsOut properties IsByteUsed IsAllocated contents slots chunk × (0 < count_at slots (segment_of chunk.pointer)))
       chunks
   out_and_counted contents slots chunks out =
-      all-both (IsOut rules.properties rules.IsByteUsed rules.IsAllocated contents slots) (λ chunk. 0 < number_within (segment_of chunk.pointer) chunks)
-      (λ chunk. IsOut rules.properties rules.IsByteUsed rules.IsAllocated contents slots chunk × (0 < count_at slots (segment_of chunk.pointer))) chunks
+      all-both (IsOut properties IsByteUsed IsAllocated contents slots) (λ chunk. 0 < number_within (segment_of chunk.pointer) chunks)
+      (λ chunk. IsOut properties IsByteUsed IsAllocated contents slots chunk × (0 < count_at slots (segment_of chunk.pointer))) chunks
       (λ chunk is counted. (is, omega (arith, counted, out.counted (segment_of chunk.pointer))))
       out.each (each_counted chunks chunks (λ number. omega arith))
 
   pub AreOut-elsewhere : (old new : Contents (Segment A)) (slots : Slots) (chunks : List Chunk) →
       ((number : ℕ) → segment_value new slots number ≡ segment_value old slots number) →
-      AreOut rules.properties rules.IsByteUsed rules.IsAllocated old slots chunks → AreOut rules.properties rules.IsByteUsed rules.IsAllocated new slots chunks
+      AreOut properties IsByteUsed IsAllocated old slots chunks → AreOut properties IsByteUsed IsAllocated new slots chunks
   AreOut-elsewhere old new slots chunks same out = record {
-    each = all-map (IsOut rules.properties rules.IsByteUsed rules.IsAllocated old slots) (IsOut rules.properties rules.IsByteUsed rules.IsAllocated new slots) chunks
+    each = all-map (IsOut properties IsByteUsed IsAllocated old slots) (IsOut properties IsByteUsed IsAllocated new slots) chunks
         (λ chunk. same-IsOut old new slots slots chunk (same (segment_of chunk.pointer))) out.each;
     apart = out.apart;
     counted = out.counted;
@@ -205,8 +205,8 @@ module _ {A C : Type 0} (rules : shm_allocator.Ghosts A C) where
     ]
 
     grown_out : (chunk : Chunk) →
-        IsOut rules.properties rules.IsByteUsed rules.IsAllocated old before.slots chunk × (0 < count_at before.slots (segment_of chunk.pointer)) →
-        IsOut rules.properties rules.IsByteUsed rules.IsAllocated new after.slots chunk
+        IsOut properties IsByteUsed IsAllocated old before.slots chunk × (0 < count_at before.slots (segment_of chunk.pointer)) →
+        IsOut properties IsByteUsed IsAllocated new after.slots chunk
     grown_out chunk is =
         let number : ℕ = segment_of chunk.pointer in
         let apart : number ≢ next = λ same.
@@ -216,11 +216,11 @@ module _ {A C : Type 0} (rules : shm_allocator.Ghosts A C) where
         (grows.others.values number apart
         ∙ ap (λ slot. value_in old slot) (counted-without_unused before.slots before.current number is.1)) is.0
 
-    pub AreOut-grown : (chunks : List Chunk) → AreOut rules.properties rules.IsByteUsed rules.IsAllocated old before.slots chunks → AreOut rules.properties rules.IsByteUsed rules.IsAllocated new after.slots chunks
+    pub AreOut-grown : (chunks : List Chunk) → AreOut properties IsByteUsed IsAllocated old before.slots chunks → AreOut properties IsByteUsed IsAllocated new after.slots chunks
     AreOut-grown chunks out = record {
       each = all-map
-          (λ chunk. IsOut rules.properties rules.IsByteUsed rules.IsAllocated old before.slots chunk × (0 < count_at before.slots (segment_of chunk.pointer)))
-          (IsOut rules.properties rules.IsByteUsed rules.IsAllocated new after.slots) chunks grown_out (out_and_counted old before.slots chunks out);
+          (λ chunk. IsOut properties IsByteUsed IsAllocated old before.slots chunk × (0 < count_at before.slots (segment_of chunk.pointer)))
+          (IsOut properties IsByteUsed IsAllocated new after.slots) chunks grown_out (out_and_counted old before.slots chunks out);
       apart = out.apart;
       counted = λ number. grown_count number ∙ out.counted number;
     }
@@ -273,7 +273,7 @@ module _ {A C : Type 0} (rules : shm_allocator.Ghosts A C) (allocation : (old : 
           within = subst (λ (s : Segment A). IsInPayload s.payload (offset_of chunk.pointer) chunk.size) is out.within;
         }
     | inr apart ↦
-        same-IsOut rules old new before after chunk (gives.others.values (segment_of chunk.pointer) apart) out
+        same-IsOut rules.properties rules.IsByteUsed rules.IsAllocated old new before after chunk (gives.others.values (segment_of chunk.pointer) apart) out
   ]
 
   module _ (size : ℕ) (sized_left : chunk_size (rules.properties gives.left) layout ≡ size) (some : 0 < size)
@@ -343,12 +343,12 @@ module _ {A C : Type 0} (rules : shm_allocator.Ghosts A C) (allocation : (old : 
 
 -- ---- over a return
 
-module _ {A C : Type 0} (rules : shm_allocator.Ghosts A C) (deallocation : (old : A) (pointer : ℕ) (new : A) →
-    rules.Deallocates old pointer new →
-    IsDeallocation (rules.properties old) (rules.properties new) (rules.IsByteUsed old) (rules.IsByteUsed new)
-    (rules.IsAllocated old) (rules.IsAllocated new) pointer)
+module _ {A : Type 0} (properties : A → Properties) (IsByteUsed IsAllocated : A → ℕ → Type 0)
+    (Deallocates : A → ℕ → A → Type 0) (deallocation : (old : A) (pointer : ℕ) (new : A) → Deallocates old pointer new →
+    IsDeallocation (properties old) (properties new) (IsByteUsed old) (IsByteUsed new) (IsAllocated old)
+    (IsAllocated new) pointer)
     (old new : Contents (Segment A)) (before after : Slots) (pointer : ℕ)
-    (returns : ReturnsChunk (λ was is. rules.Deallocates was (pointer_offset (offset_of pointer) 0) is) old before
+    (returns : ReturnsChunk (λ was is. Deallocates was (pointer_offset (offset_of pointer) 0) is) old before
     (segment_of pointer) new after) where
   abbrev number : ℕ
   number = segment_of pointer
@@ -356,18 +356,18 @@ module _ {A C : Type 0} (rules : shm_allocator.Ghosts A C) (deallocation : (old 
   abbrev return_place : ℕ
   return_place = pointer_offset (offset_of pointer) 0
 
-  return_law : IsDeallocation (rules.properties returns.was.allocator) (rules.properties returns.left)
-      (rules.IsByteUsed returns.was.allocator) (rules.IsByteUsed returns.left)
-      (rules.IsAllocated returns.was.allocator) (rules.IsAllocated returns.left) return_place
+  return_law : IsDeallocation (properties returns.was.allocator) (properties returns.left)
+      (IsByteUsed returns.was.allocator) (IsByteUsed returns.left)
+      (IsAllocated returns.was.allocator) (IsAllocated returns.left) return_place
   return_law = deallocation returns.was.allocator return_place returns.left returns.change
 
   module _ (index : ℕ) (chunk : Chunk) (chunks : List Chunk) (at : slice_get chunks index ≡ Some chunk)
-      (is_pointer : chunk.pointer ≡ pointer) (out : AreOut rules.properties rules.IsByteUsed rules.IsAllocated old before chunks) where
+      (is_pointer : chunk.pointer ≡ pointer) (out : AreOut properties IsByteUsed IsAllocated old before chunks) where
     abbrev rest : List Chunk
     rest = without_chunk index chunks
 
-    returned : IsOut rules.properties rules.IsByteUsed rules.IsAllocated old before chunk
-    returned = all-at (IsOut rules.properties rules.IsByteUsed rules.IsAllocated old before) chunks index chunk at out.each
+    returned : IsOut properties IsByteUsed IsAllocated old before chunk
+    returned = all-at (IsOut properties IsByteUsed IsAllocated old before) chunks index chunk at out.each
 
     left_count : (n : ℕ) → count_at after n ≡ number_within n rest
     left_count n = elim (cases_eq n number) [
@@ -397,17 +397,17 @@ module _ {A C : Type 0} (rules : shm_allocator.Ghosts A C) (deallocation : (old 
 
     -- what is known of another chunk
     abbrev Other : Chunk → Type 0
-    Other other = IsOut rules.properties rules.IsByteUsed rules.IsAllocated old before other × AreDisjoint chunk other
+    Other other = IsOut properties IsByteUsed IsAllocated old before other × AreDisjoint chunk other
 
     not_in_chunk : (other : Chunk) → AreDisjoint chunk other → segment_of other.pointer ≡ number → (byte : ℕ) →
         IsInChunk other.pointer other.size byte →
-        ¬ IsInChunk return_place (chunk_size (rules.properties returns.was.allocator) chunk.layout) byte
+        ¬ IsInChunk return_place (chunk_size (properties returns.was.allocator) chunk.layout) byte
     not_in_chunk other apart same byte inside in_place =
         let is : returned.segment ≡ returns.was =
         same_Some returned.segment returns.was
         (sym returned.there ∙ ap (λ p. segment_value old before (segment_of p)) is_pointer ∙ returns.origin) in
-        let sized : chunk_size (rules.properties returns.was.allocator) chunk.layout ≡ chunk.size =
-        subst (λ (s : Segment A). chunk_size (rules.properties s.allocator) chunk.layout ≡ chunk.size) is
+        let sized : chunk_size (properties returns.was.allocator) chunk.layout ≡ chunk.size =
+        subst (λ (s : Segment A). chunk_size (properties s.allocator) chunk.layout ≡ chunk.size) is
         returned.sized in
         let in_pointer : IsInChunk pointer chunk.size byte =
         from_segment pointer chunk.size byte (subst (λ s. IsInChunk return_place s byte) sized in_place) in
@@ -427,10 +427,10 @@ module _ {A C : Type 0} (rules : shm_allocator.Ghosts A C) (deallocation : (old 
         (omega arith, omega (arith, some))
 
     left_out : (other : Chunk) → Other other → 0 < number_within (segment_of other.pointer) rest →
-        IsOut rules.properties rules.IsByteUsed rules.IsAllocated new after other
+        IsOut properties IsByteUsed IsAllocated new after other
     left_out other is counted = elim (cases_eq (segment_of other.pointer) number) [
       | inl same ↦
-          let was : IsOut rules.properties rules.IsByteUsed rules.IsAllocated old before other = is.0 in
+          let was : IsOut properties IsByteUsed IsAllocated old before other = is.0 in
           let same_segment : was.segment ≡ returns.was =
           same_Some was.segment returns.was (sym was.there ∙ ap (segment_value old before) same ∙ returns.origin) in
           let held = some_counted (segment_at after number)
@@ -441,35 +441,35 @@ module _ {A C : Type 0} (rules : shm_allocator.Ghosts A C) (deallocation : (old 
                 ∙ returns.still (is_some-from (segment_at after number) held.0 held.1);
             allocated = return_law.others_allocated (pointer_offset (offset_of other.pointer) 0)
                 (other_start other is.1 was.not_empty same)
-                (subst (λ (s : Segment A). rules.IsAllocated s.allocator
+                (subst (λ (s : Segment A). IsAllocated s.allocator
                 (pointer_offset (offset_of other.pointer) 0)) same_segment was.allocated);
             sized = ap (λ p. chunk_size p other.layout) return_law.properties
-                ∙ subst (λ (s : Segment A). chunk_size (rules.properties s.allocator) other.layout ≡ other.size)
+                ∙ subst (λ (s : Segment A). chunk_size (properties s.allocator) other.layout ≡ other.size)
                 same_segment was.sized;
             not_empty = was.not_empty;
             large = was.large;
             taken = λ byte inside.
                 let bytes = return_law.bytes chunk.layout in
                 bytes.others_used byte (not_in_chunk other is.1 same byte inside)
-                (subst (λ (s : Segment A). rules.IsByteUsed s.allocator byte) same_segment (was.taken byte inside));
+                (subst (λ (s : Segment A). IsByteUsed s.allocator byte) same_segment (was.taken byte inside));
             within = subst (λ (s : Segment A). IsInPayload s.payload (offset_of other.pointer) other.size) same_segment
                 was.within;
           }
       | inr apart ↦
-          same-IsOut rules old new before after other (returns.others.values (segment_of other.pointer) apart) is.0
+          same-IsOut properties IsByteUsed IsAllocated old new before after other (returns.others.values (segment_of other.pointer) apart) is.0
     ]
 
     others : AllByRecursion Other rest
-    others = all-both (IsOut rules.properties rules.IsByteUsed rules.IsAllocated old before) (AreDisjoint chunk) Other rest (λ other is apart. (is, apart))
-        (all-without (IsOut rules.properties rules.IsByteUsed rules.IsAllocated old before) chunks index out.each) (disjoint-at chunks index chunk at out.apart)
+    others = all-both (IsOut properties IsByteUsed IsAllocated old before) (AreDisjoint chunk) Other rest (λ other is apart. (is, apart))
+        (all-without (IsOut properties IsByteUsed IsAllocated old before) chunks index out.each) (disjoint-at chunks index chunk at out.apart)
 
-    AreOut-returned : AreOut rules.properties rules.IsByteUsed rules.IsAllocated new after rest
+    AreOut-returned : AreOut properties IsByteUsed IsAllocated new after rest
     AreOut-returned = record {
-      each = all-both Other (λ other. 0 < number_within (segment_of other.pointer) rest) (IsOut rules.properties rules.IsByteUsed rules.IsAllocated new after) rest
+      each = all-both Other (λ other. 0 < number_within (segment_of other.pointer) rest) (IsOut properties IsByteUsed IsAllocated new after) rest
           left_out others (each_counted rest rest (λ n. omega arith));
       apart = overlap-without chunks index out.apart;
       counted = left_count;
     }
 
-  pub RemovesChunk-returned : RemovesChunk rules.properties rules.IsByteUsed rules.IsAllocated old before pointer new after
+  pub RemovesChunk-returned : RemovesChunk properties IsByteUsed IsAllocated old before pointer new after
   RemovesChunk-returned index chunk chunks at is_pointer out = AreOut-returned index chunk chunks at is_pointer out

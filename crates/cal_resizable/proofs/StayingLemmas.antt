@@ -1,6 +1,6 @@
 -- What the calls of a growing memory leave of the chunks that are out.
 use Rattle.std.proofs.Common.{◌≡◌, ℕ, ◌+◌, ◌<◌, ◌≤◌, Option, Some, None, IsSome, Result, Ok, Err, IfOk, sym, ap, ◌∙◌, subst, refl, arith}
-use Rattle.cal_alloc.specs.Chunks.{IsAllocation, IsDeallocation, chunk_size}
+use Rattle.cal_alloc.specs.Chunks.{Properties, IsAllocation, IsDeallocation, chunk_size}
 use Rattle.cal_alloc.specs.PointerOffset.{pointer_offset, offset_of, segment_of}
 use Rattle.cal_alloc.specs.SizeAndAlignment.{SizeAndAlignment}
 use Rattle.cal_alloc.specs.declared.shm_allocator.SharedMemorySetupHint.{SharedMemorySetupHint}
@@ -67,7 +67,7 @@ module _ {A C : Type 0} (rules : shm_allocator.Ghosts A C) (allocation : (old : 
         AddsChunk rules.properties rules.IsByteUsed rules.IsAllocated old before.slots layout pointer new after.slots
     AddsChunk-grown sound_between has_between here fits serves chunks some out =
         AddsChunk-here mid new between after sound_between has_between here fits serves chunks some
-        (AreOut-grown rules old mid before between (made_segment rules hint) grows chunks out)
+        (AreOut-grown rules.properties rules.IsByteUsed rules.IsAllocated old mid before between (made_segment rules hint) grows chunks out)
 
 -- the cause why the current segment doesn't serve a layout
 pub not_served : {A C : Type 0} (rules : shm_allocator.Ghosts A C) (old : Contents (Segment A)) (memory : MemoryState)
@@ -79,18 +79,18 @@ not_served rules old memory layout refusal refused =
     (λ segment. IsSome (rules.refusal segment.allocator layout)) refused (λ segment is. subst IsSome is refl)
 
 -- a chunk is taken back
-pub RemovesChunk-taken : {A C : Type 0} (rules : shm_allocator.Ghosts A C) → ((old : A) (pointer : ℕ) (new : A) →
-    rules.Deallocates old pointer new →
-    IsDeallocation (rules.properties old) (rules.properties new) (rules.IsByteUsed old) (rules.IsByteUsed new)
-    (rules.IsAllocated old) (rules.IsAllocated new) pointer) →
-    (old new : Contents (Segment A)) (before after : MemoryState) (pointer : ℕ) → IsSoundMemory before →
-    HasAll old before → 0 < count_at before.slots (segment_of pointer) →
-    TakesBack (λ was is. rules.Deallocates was (pointer_offset (offset_of pointer) 0) is) old before
-    (segment_of pointer) new after →
-    RemovesChunk rules.properties rules.IsByteUsed rules.IsAllocated old before.slots pointer new after.slots
-RemovesChunk-taken rules deallocation old new before after pointer sound has some takes =
-    RemovesChunk-returned rules deallocation old new before.slots after.slots pointer
-    (ReturnsChunk-by (λ was is. rules.Deallocates was (pointer_offset (offset_of pointer) 0) is) old new before after
+pub RemovesChunk-taken : {A : Type 0} (properties : A → Properties) (IsByteUsed IsAllocated : A → ℕ → Type 0)
+    (Deallocates : A → ℕ → A → Type 0) → ((old : A) (pointer : ℕ) (new : A) → Deallocates old pointer new →
+    IsDeallocation (properties old) (properties new) (IsByteUsed old) (IsByteUsed new) (IsAllocated old)
+    (IsAllocated new) pointer) → (old new : Contents (Segment A)) (before after : MemoryState) (pointer : ℕ) →
+    IsSoundMemory before → HasAll old before → 0 < count_at before.slots (segment_of pointer) →
+    TakesBack (λ was is. Deallocates was (pointer_offset (offset_of pointer) 0) is) old before (segment_of pointer) new
+    after → RemovesChunk properties IsByteUsed IsAllocated old before.slots pointer new after.slots
+RemovesChunk-taken properties IsByteUsed IsAllocated Deallocates deallocation old new before after pointer sound has some
+    takes =
+    RemovesChunk-returned properties IsByteUsed IsAllocated Deallocates deallocation old new before.slots after.slots
+    pointer
+    (ReturnsChunk-by (λ was is. Deallocates was (pointer_offset (offset_of pointer) 0) is) old new before after
     (segment_of pointer) sound has some takes)
 
 -- what is known of a result that is Ok

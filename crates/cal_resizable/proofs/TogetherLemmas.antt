@@ -172,8 +172,12 @@ module _ {T : Type 0} (contents : Contents T) (memory : MemoryState) (view : Vie
   current_within : (n : ℕ) → view.current ≡ Some n → n < length slots
   current_within n current =
       let is = both.view_sound in
-      omega (arith, is_some-within view.slots n (is.current n current), is.slots,
-      both-length view is number id unmapped below)
+      omega (
+        arith,
+        is_some-within view.slots n (is.current n current),
+        is.slots,
+        both-length view is number id unmapped below,
+      )
 
   opened_apart : AreApart slots
   opened_apart = view-AreApart mid opened_view opened_paths opened_has
@@ -321,70 +325,70 @@ not_refused checks_version contents memory view number both active =
 
 module _ {T : Type 0} (contents : Contents T) (memory : MemoryState) (view : View) (number : ℕ)
     (both : AreTogether contents memory view) (old : HeldSegment) (there : segment_at view.slots number ≡ Some old)
-    where
-  abbrev less : Slots
-  less = with_less view.slots number
+  where
+    abbrev less : Slots
+    less = with_less view.slots number
 
-  abbrev less_view : View
-  less_view = record view { slots = less }
+    abbrev less_view : View
+    less_view = record view { slots = less }
 
-  abbrev leaving : Option ℕ
-  leaving = leaving_of view.current number
+    abbrev leaving : Option ℕ
+    leaving = leaving_of view.current number
 
-  less_from : ComesFrom less view.slots
-  less_from = with_less-ComesFrom view.slots number (held-within view.slots number old there)
+    less_from : ComesFrom less view.slots
+    less_from = with_less-ComesFrom view.slots number (held-within view.slots number old there)
 
-  less_paths : HasPaths less_view
-  less_paths = fewer-HasPaths contents view both.view_sound both.has_view number old there
+    less_paths : HasPaths less_view
+    less_paths = fewer-HasPaths contents view both.view_sound both.has_view number old there
 
-  less_has : HasView contents less_view
-  less_has = fewer-HasView contents view both.view_sound both.has_view number old there
+    less_has : HasView contents less_view
+    less_has = fewer-HasView contents view both.view_sound both.has_view number old there
 
-  less_guests : EachHeld less (λ n held. held.handle.is_owner ≡ false)
-  less_guests n held at =
-      let from = less_from n held at in
-      ap (λ (h : Handle). h.is_owner) from.2 ∙ guests_of view both.view_sound n from.0 from.1
+    less_guests : EachHeld less (λ n held. held.handle.is_owner ≡ false)
+    less_guests n held at =
+        let from = less_from n held at in
+        ap (λ (h : Handle). h.is_owner) from.2 ∙ guests_of view both.view_sound n from.0 from.1
 
-  less_share : ShareSegments contents memory.slots less
-  less_share = share-from contents memory.slots less view.slots less_from both.share
+    less_share : ShareSegments contents memory.slots less
+    less_share = share-from contents memory.slots less view.slots less_from both.share
 
-  less_within : (n : ℕ) → leaving ≡ Some n → n < length less
-  less_within = less-retired-within view both.view_sound number old there
+    less_within : (n : ℕ) → leaving ≡ Some n → n < length less
+    less_within = less-retired-within view both.view_sound number old there
 
-  less_apart : AreApart less
-  less_apart = view-AreApart contents less_view less_paths less_has
+    less_apart : AreApart less
+    less_apart = view-AreApart contents less_view less_paths less_has
 
-  abbrev given_back : Contents T
-  given_back = after_retiring_of contents less leaving
+    abbrev given_back : Contents T
+    given_back = after_retiring_of contents less leaving
 
-  pub given_back_together : AreTogether given_back memory (unregistering view number)
-  given_back_together = record {
-    memory_sound = both.memory_sound;
-    view_sound = unregistering-IsView view both.view_sound number old there;
-    name = both.name;
-    settings = both.settings;
-    has_memory = retired_HasAll contents memory both.memory_sound less_view less_paths both.name both.settings
-        less_guests less_has both.holds both.names less_share leaving less_within less_apart;
-    has_view = retired_has_view contents memory both.memory_sound less_view less_paths both.name both.settings
-        less_guests less_has both.holds both.names less_share leaving less_within less_apart;
-    holds = retired_HoldsAll contents memory both.memory_sound less_view less_paths both.name both.settings
-        less_guests less_has both.holds both.names less_share leaving less_within less_apart;
-    names = retired_NamesAll contents memory both.memory_sound less_view less_paths both.name both.settings
-        less_guests less_has both.holds both.names less_share leaving less_within less_apart;
-    finished = retired_finished contents memory both.memory_sound less_view less_paths both.name both.settings
-        less_guests less_has both.holds both.names less_share leaving both.finished;
-    share = retired_share contents memory both.memory_sound less_view less_paths both.name both.settings
-        less_guests less_has both.holds both.names less_share leaving less_within less_apart;
-    later = λ n after_current within.
-        retired_names contents memory both.memory_sound less_view less_paths both.name both.settings
-        less_guests less_has both.holds both.names less_share leaving _ ∙ both.later n after_current within;
-    mapped = λ n held at.
-        let from = less_from n held (less-lookup view both.view_sound number old there n held at).0 in
-        both.mapped n from.0 from.1;
-  }
+    pub given_back_together : AreTogether given_back memory (unregistering view number)
+    given_back_together = record {
+      memory_sound = both.memory_sound;
+      view_sound = unregistering-IsView view both.view_sound number old there;
+      name = both.name;
+      settings = both.settings;
+      has_memory = retired_HasAll contents memory both.memory_sound less_view less_paths both.name both.settings
+          less_guests less_has both.holds both.names less_share leaving less_within less_apart;
+      has_view = retired_has_view contents memory both.memory_sound less_view less_paths both.name both.settings
+          less_guests less_has both.holds both.names less_share leaving less_within less_apart;
+      holds = retired_HoldsAll contents memory both.memory_sound less_view less_paths both.name both.settings
+          less_guests less_has both.holds both.names less_share leaving less_within less_apart;
+      names = retired_NamesAll contents memory both.memory_sound less_view less_paths both.name both.settings
+          less_guests less_has both.holds both.names less_share leaving less_within less_apart;
+      finished = retired_finished contents memory both.memory_sound less_view less_paths both.name both.settings
+          less_guests less_has both.holds both.names less_share leaving both.finished;
+      share = retired_share contents memory both.memory_sound less_view less_paths both.name both.settings
+          less_guests less_has both.holds both.names less_share leaving less_within less_apart;
+      later = λ n after_current within.
+          retired_names contents memory both.memory_sound less_view less_paths both.name both.settings
+          less_guests less_has both.holds both.names less_share leaving _ ∙ both.later n after_current within;
+      mapped = λ n held at.
+          let from = less_from n held (less-lookup view both.view_sound number old there n held at).0 in
+          both.mapped n from.0 from.1;
+    }
 
-  pub given_back_values : (other : ℕ) →
-      segment_value given_back memory.slots other ≡ segment_value contents memory.slots other
-  given_back_values =
-      retired_values contents memory both.memory_sound less_view less_paths both.name both.settings
-      less_guests less_has both.holds both.names less_share leaving less_within less_apart
+    pub given_back_values : (other : ℕ) →
+        segment_value given_back memory.slots other ≡ segment_value contents memory.slots other
+    given_back_values =
+        retired_values contents memory both.memory_sound less_view less_paths both.name both.settings
+        less_guests less_has both.holds both.names less_share leaving less_within less_apart

@@ -341,8 +341,7 @@ impl<A: ShmAllocator, Shm: SharedMemory<A>> DynamicMemory<A, Shm> {
             (λ segment. A.IsAllocated segment.allocator (pointer_offset (offset_of offset) 0)) }
         ensures freed { TakesBack (λ was is. A.Deallocates was (pointer_offset (offset_of offset) 0) is)
             reg.old self.old (segment_of offset) reg.new self.new }
-        ensures stays_out {
-            RemovesChunk A.properties A.IsByteUsed A.IsAllocated reg.old self.old.slots offset reg.new self.new.slots }
+        ensures stays_out { RemovesChunk A.properties A.IsByteUsed A.IsAllocated reg.old self.old.slots offset reg.new self.new.slots }
         ensures own { KeepsOwn reg.old self.old reg.new self.new }
         ensures spares { SparesHandles reg.old reg.new self.old.slots self.new.slots }
     {

@@ -35,7 +35,10 @@ fn memory_grows_to_256_segments(rt: HostRuntime) -> Result<(), Fail> {
     grow(rt.alloc(), &mut reg, &mut memory, 255)?;
     assert_eq!(rt; memory.number_of_active_segments(), 256);
     let refused = memory.allocate(rt.alloc(), &mut reg, layout(4096, 8)?);
-    assert_eq!(rt; refused.err(), Some(ResizableShmAllocationError::MaxReallocationsReached));
+    assert_eq!(rt;
+        refused.err(),
+        Some(ResizableShmAllocationError::MaxReallocationsReached)
+    );
     Ok(())
 }
 

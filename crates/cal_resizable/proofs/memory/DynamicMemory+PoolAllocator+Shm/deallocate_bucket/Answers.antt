@@ -1,6 +1,6 @@
 use Rattle.std.proofs.Common.{◌≡◌, ◌<◌, ℕ, sym, subst, ◌∙◌}
 use Rattle.cal_alloc.specs.PointerOffset.{segment_of}
-use Rattle.cal_alloc.specs.Pool.{FreesBucket}
+use Rattle.cal_alloc.specs.Pool.{IsUsedBucket, IsInUsedBucket, FreesBucket, pool_properties}
 use Rattle.cal_resizable.specs.Memory.{MemoryState, IsSoundMemory, HasAll}
 use Rattle.cal_resizable.specs.Slots.{count_at}
 use Rattle.cal_resizable.proofs.KeepingLemmas.{EachHandle-leaves, LeavesHandle-ChangesAllocator, has_segment, IsSoundMemory-returned, TakesBack-by, KeepsOwn-returned, SparesHandles-returned}
@@ -74,5 +74,6 @@ returns-clause-spares g c =
 
 pub returns-clause-stays_out : goal.returns-clause-stays_out
 returns-clause-stays_out g c =
-    RemovesChunk-taken _ FreesBucket-IsDeallocation c.args.reg.now c.take_back.new.reg c.args.self.now _ c.args.offset
+    RemovesChunk-taken pool_properties IsInUsedBucket IsUsedBucket FreesBucket FreesBucket-IsDeallocation
+    c.args.reg.now c.take_back.new.reg c.args.self.now _ c.args.offset
     (subst IsSoundMemory c.self.view_is c.self.invariant) c.requires.has c.requires.chunks (returns-clause-freed g c)

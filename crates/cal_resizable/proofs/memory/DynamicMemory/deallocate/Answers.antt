@@ -74,6 +74,7 @@ returns-clause-spares g c =
 
 pub returns-clause-stays_out : goal.returns-clause-stays_out
 returns-clause-stays_out g c =
-    RemovesChunk-taken g.A.ShmAllocator g.met.A.ShmAllocator.deallocation c.args.reg.now c.take_back.new.reg
-    c.args.self.now _ c.args.offset (subst IsSoundMemory c.self.view_is c.self.invariant) c.requires.has
+    let R = g.A.ShmAllocator in
+    RemovesChunk-taken R.properties R.IsByteUsed R.IsAllocated R.Deallocates g.met.A.ShmAllocator.deallocation
+    c.args.reg.now c.take_back.new.reg c.args.self.now _ c.args.offset (subst IsSoundMemory c.self.view_is c.self.invariant) c.requires.has
     c.requires.chunks (returns-clause-freed g c)
