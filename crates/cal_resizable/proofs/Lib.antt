@@ -5,6 +5,7 @@ mod ClosingLemmas
 mod CreationLemmas
 pub mod CutLemmas
 mod FinishedLemmas
+mod FullLemmas
 mod GrowthLemmas
 mod GuestLemmas
 mod KeepingLemmas

@@ -9,14 +9,14 @@ ghost use Rattle.cal_shm.specs.Calls.{IsInPayload, IsChunkWithin};
 ghost use Rattle.cal_resizable.specs.Chunks.{AddsChunk, RemovesChunk};
 ghost use Rattle.cal_resizable.specs.Closing.{held_handles, AreElsewhere, after_closing, LeavesAllSharers};
 ghost use Rattle.cal_resizable.specs.Creation.{first_memory};
-ghost use Rattle.cal_resizable.specs.Growth.{OfSegment, AllocatesHere, Allocates, TakesBack, growth_plan, allocation_refusal, segment_plan, segment_refusal, made_segment, grown_contents, grown_memory};
+ghost use Rattle.cal_resizable.specs.Growth.{OfSegment, AllocatesHere, Allocates, TakesBack, growth_plan, allocation_refusal, segment_plan, segment_refusal, made_segment, grown_contents, grown_memory, next_number_of_buckets};
 ghost use Rattle.cal_resizable.specs.Memory.{IsSoundMemory, HasAll, KeepsOwn};
 ghost use Rattle.cal_resizable.specs.SegmentNames.{number_end};
 ghost use Rattle.cal_resizable.specs.Slots.{segment_at, count_at, number_held, with_less, without_unused, after_retiring, AreApart, IsSpared, LeavesHandle, SparesHandles};
 
 use crate::closing::close_all;
 use crate::errors::ResizableShmAllocationError;
-use crate::growth::{make_segment, plan_growth};
+use crate::growth::{make_segment, next_number_of_buckets, plan_growth};
 use crate::lending::SegmentsHolder;
 use crate::names::segment_name;
 use crate::slots::{NUMBER_OF_SLOTS, SegmentSlots};
@@ -410,6 +410,38 @@ impl<Shm: SharedMemoryForPoolAllocator> DynamicMemory<PoolAllocator, Shm> {
             (λ segment. result ≡ segment.allocator.buckets.size) }
     {
         self.slots.segment(segment_id.value()).bucket_size(reg)
+    }
+
+    /// The number of buckets of a segment.
+    pub fn number_of_buckets(
+        &self,
+        reg: &Registry<AllocatorDetails<PoolAllocator>>,
+        segment_id: SegmentId,
+    ) -> u32
+        requires has { HasAll reg.now self.now }
+        requires active { IsSome (segment_at self.now.slots segment_id) }
+        ensures number { OfSegment reg.now self.now.slots segment_id
+            (λ segment. result ≡ segment.allocator.buckets.count) }
+    {
+        self.slots
+            .segment(segment_id.value())
+            .allocator(reg)
+            .number_of_buckets()
+    }
+
+    /// The number of buckets of the segment that an allocation of this layout would make; none where the current segment
+    /// serves the layout, or where the memory doesn't grow for it.
+    pub fn next_number_of_buckets(
+        &self,
+        reg: &Registry<AllocatorDetails<PoolAllocator>>,
+        layout: Layout,
+    ) -> Option<usize>
+        requires has { HasAll reg.now self.now }
+        ensures number { OfSegment reg.now self.now.slots self.now.current (λ segment. result
+            ≡ next_number_of_buckets self.now.strategy self.now.current layout segment.allocator) }
+    {
+        let pool = self.slots.segment(self.current).allocator(reg);
+        next_number_of_buckets(pool, self.strategy, self.current, layout)
     }
 }
 
