@@ -210,3 +210,6 @@ fn is_name(found: Option<FileName>, name: &FileName) -> bool
         None => false,
     }
 }
+
+#[cfg(test)]
+mod tests;

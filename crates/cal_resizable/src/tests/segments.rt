@@ -42,7 +42,10 @@ fn grows_to_256_segments<A: ShmAllocator, Shm: SharedMemory<A>>(
     grow(alloc, &mut reg, &mut memory, 255)?;
     assert_eq!(rt; memory.number_of_active_segments(), 256);
     let refused = memory.allocate(alloc, &mut reg, bytes(4096)?);
-    assert_eq!(rt; refused.err(), Some(ResizableShmAllocationError::MaxReallocationsReached));
+    assert_eq!(rt;
+        refused.err(),
+        Some(ResizableShmAllocationError::MaxReallocationsReached)
+    );
     Ok(())
 }
 
@@ -54,8 +57,10 @@ fn goes_with_its_last_chunk<A: ShmAllocator, Shm: SharedMemory<A>>(
     let mut reg = Registry::new(alloc);
     let mut memory = memory::<A, Shm>(alloc, &mut reg, 1, AllocationStrategy::BestFit)?;
     let small = bytes(8)?;
+    let large = bytes(16)?;
     let first = memory.allocate(alloc, &mut reg, small)?;
-    memory.allocate(alloc, &mut reg, bytes(16)?)?;
+    let second = memory.allocate(alloc, &mut reg, large)?;
+    assert_eq!(rt; second.offset.segment_id().value(), 1);
     assert_eq!(rt; memory.number_of_active_segments(), 2);
     memory.deallocate(&mut reg, first.offset, small);
     assert_eq!(rt; memory.number_of_active_segments(), 1);
@@ -64,7 +69,10 @@ fn goes_with_its_last_chunk<A: ShmAllocator, Shm: SharedMemory<A>>(
 
 #[test]
 fn a_segment_goes_with_its_last_chunk(rt: HostRuntime) -> Result<(), Fail> {
-    goes_with_its_last_chunk::<PoolAllocator, process_local::Memory<PoolAllocator>>(&rt, rt.alloc())?;
+    goes_with_its_last_chunk::<PoolAllocator, process_local::Memory<PoolAllocator>>(
+        &rt,
+        rt.alloc(),
+    )?;
     goes_with_its_last_chunk::<BumpAllocator, file::Memory<BumpAllocator>>(&rt, rt.alloc())
 }
 
