@@ -12,7 +12,7 @@ deallocate-requires-clause-chunks g c =
     let first : Chunk =
     record { pointer = c.in_ok-first.first.offset; layout = c.in_ok-small.small; size = one.0 } in
     let two = c.in_ok-second.ensures.stays_out (first ∷ []) (omega (arith, c.in_ok-large.ensures.size)) one.1 in
-    out_counted R c.allocate-second.new.reg c.allocate-second.new.self.slots _ 1 first refl two.1
+    out_counted R c.allocate-2.new.reg c.allocate-2.new.self.slots _ 1 first refl two.1
 
 pub deallocate-requires-clause-allocated : goal.deallocate-requires-clause-allocated
 deallocate-requires-clause-allocated g c =
@@ -22,4 +22,4 @@ deallocate-requires-clause-allocated g c =
     let first : Chunk =
     record { pointer = c.in_ok-first.first.offset; layout = c.in_ok-small.small; size = one.0 } in
     let two = c.in_ok-second.ensures.stays_out (first ∷ []) (omega (arith, c.in_ok-large.ensures.size)) one.1 in
-    out_allocated R c.allocate-second.new.reg c.allocate-second.new.self.slots _ 1 first refl two.1
+    out_allocated R c.allocate-2.new.reg c.allocate-2.new.self.slots _ 1 first refl two.1
