@@ -2,6 +2,4 @@
 //! take far longer to prove.
 
 mod fixtures;
-mod growth;
-mod refusals;
 mod segments;

@@ -1,11 +1,11 @@
-//! How many segments there can be, and when one goes.
+//! How many segments there can be.
 ghost use Rattle.std.specs.Prelude.{◌≤◌, ◌<◌, ◌+◌, OnOk};
 ghost use Rattle.cal_resizable.specs.Memory.{HasAll};
 ghost use Rattle.cal_resizable.specs.Slots.{count_at};
 
 use super::fixtures::{bytes, memory};
 use crate::{DynamicMemory, ResizableShmAllocationError};
-use cal_alloc::{AllocationStrategy, BumpAllocator, PoolAllocator, ShmAllocator};
+use cal_alloc::{AllocationStrategy, PoolAllocator, ShmAllocator};
 use cal_shm::{AllocatorDetails, SharedMemory, file, process_local};
 use cal_storage::Registry;
 use std::alloc::Global;
@@ -47,33 +47,6 @@ fn grows_to_256_segments<A: ShmAllocator, Shm: SharedMemory<A>>(
         Some(ResizableShmAllocationError::MaxReallocationsReached)
     );
     Ok(())
-}
-
-/// A segment that isn't the current one goes with its last chunk.
-fn goes_with_its_last_chunk<A: ShmAllocator, Shm: SharedMemory<A>>(
-    rt: &impl Abort,
-    alloc: Global,
-) -> Result<(), Fail> {
-    let mut reg = Registry::new(alloc);
-    let mut memory = memory::<A, Shm>(alloc, &mut reg, 1, AllocationStrategy::BestFit)?;
-    let small = bytes(8)?;
-    let large = bytes(16)?;
-    let first = memory.allocate(alloc, &mut reg, small)?;
-    let second = memory.allocate(alloc, &mut reg, large)?;
-    assert_eq!(rt; second.offset.segment_id().value(), 1);
-    assert_eq!(rt; memory.number_of_active_segments(), 2);
-    memory.deallocate(&mut reg, first.offset, small);
-    assert_eq!(rt; memory.number_of_active_segments(), 1);
-    Ok(())
-}
-
-#[test]
-fn a_segment_goes_with_its_last_chunk(rt: HostRuntime) -> Result<(), Fail> {
-    goes_with_its_last_chunk::<PoolAllocator, process_local::Memory<PoolAllocator>>(
-        &rt,
-        rt.alloc(),
-    )?;
-    goes_with_its_last_chunk::<BumpAllocator, file::Memory<BumpAllocator>>(&rt, rt.alloc())
 }
 
 #[test]
