@@ -1,6 +1,12 @@
+pub mod BothEnds
 pub mod Changed
 pub mod Closed
+pub mod Made
 pub mod OneSample
+pub mod OwnCalls
 pub mod Owed
+pub mod PairMarks
+pub mod PairsBalance
 pub mod Removed
+pub mod Suited
 pub mod Written
