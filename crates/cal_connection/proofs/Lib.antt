@@ -5,7 +5,6 @@ pub mod Made
 pub mod OneSample
 pub mod OwnCalls
 pub mod Owed
-pub mod PairMarks
 pub mod PairsBalance
 pub mod Removed
 pub mod Suited

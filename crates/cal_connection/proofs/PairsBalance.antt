@@ -22,7 +22,7 @@ use Rattle.cal_connection.specs.PortLemmas.{length-segments, samples-segment_at}
 use Rattle.cal_connection.specs.Traffic.{ChannelCall, sends, receives, releases, reclaims, Side, side_after}
 use Rattle.cal_connection.specs.UsedPairs.{one_if, times_used, times_named, returned_offset, offset_if_sent, sent_offset, segments_at, times_sent, times_back}
 use Rattle.cal_connection.proofs.BothEnds.{side_at-after_call-same, side_at-after_call-other, IsSoundPair-after_call}
-use Rattle.cal_connection.proofs.PairMarks.{entered_pair, returned_pair, size-after_return, given_back}
+use Rattle.cal_connection.specs.UsedPairLemmas.{entered_pair, returned_pair, size-after_return, given_back}
 
 -- ---- what a reply tells
 

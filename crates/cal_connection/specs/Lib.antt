@@ -1,3 +1,4 @@
+pub mod AcquirableLemmas
 pub mod Acquisition
 pub mod Backpressure
 pub mod BackpressureLemmas
@@ -19,6 +20,7 @@ pub mod Traffic
 pub mod TrafficLemmas
 pub mod Unmarked
 pub mod UnmarkedLemmas
+pub mod UsedPairLemmas
 pub mod UsedPairs
 pub mod Words
 pub mod Examples

@@ -1,5 +1,5 @@
 -- How often a pair of segment and index is in use on a channel, was sent there and came back, over a run of calls.
-use Rattle.std.specs.Prelude.{ℕ, ◌+◌, ◌/◌, Bool, ◌&&◌, ◌==◌, List, [], ◌∷◌, Option, Some, None, if◌then◌else◌}
+use Rattle.std.specs.Prelude.{◌≡◌, ℕ, ◌+◌, ◌/◌, Bool, true, ◌&&◌, ◌==◌, List, [], ◌∷◌, Option, Some, None, if◌then◌else◌}
 use Rattle.cal_alloc.specs.PointerOffset.{offset_of, segment_of}
 use Rattle.cal_connection.specs.declared.port_call.PortCall.{PortCall}
 use Rattle.cal_connection.specs.declared.port_reply.PortReply.{PortReply}
@@ -17,6 +17,11 @@ one_if test = if test then 1 else 0
 -- how often a pair is in use: once or not at all
 abbrev pub times_used : List SegmentDetails → ℕ → ℕ → ℕ
 times_used segments segment index = one_if (is_used segments segment index)
+
+-- what is in use in a segment was sent with this size
+abbrev pub HasSize : List SegmentDetails → ℕ → ℕ → Type 0
+HasSize segments segment sample_size =
+    (index : ℕ) → is_used segments segment index ≡ true → (segment_at segments segment).sample_size ≡ sample_size
 
 -- whether a pair is that of an offset: its segment, and the offset divided by the stored sample size of that segment
 abbrev pub is_pair_of : List SegmentDetails → ℕ → ℕ → ℕ → Bool

@@ -3,6 +3,7 @@
 #![tactic(auto)]
 
 mod acquisition;
+pub mod acquisition_laws;
 mod backpressure;
 mod blocking;
 mod builder;
