@@ -1,3 +1,4 @@
+pub mod AllMade
 pub mod BothEnds
 pub mod Changed
 pub mod Closed

@@ -1,7 +1,7 @@
 -- Where each sample that is in use was sent with the size that is stored for its segment, the sender can acquire all of
 -- them.
 use Rattle.std.proofs.Common.{◌≡◌, ◌≢◌, ℕ, zero, suc, ◌+◌, ◌*◌, ◌/◌, ◌%◌, ◌^◌, ◌<◌, ◌≤◌, ◌==◌, ◌&&◌, Bool, true, false, List, length, replicate, Option, Some, None, refl, sym, ap, subst, ◌∙◌, inl, inr, arith}
-use Rattle.std.specs.Prelude.{slice_index_or, slice_set, if◌then◌else◌}
+use Rattle.std.specs.Prelude.{◌⊎◌, slice_index_or, slice_set, if◌then◌else◌}
 use Rattle.std.proofs.lemmas.Bool.{and_parts, cases_Bool, cases_eq, cases_lt, eqb-true, false≢true}
 use Rattle.std.proofs.lemmas.List.{get_or_past, get_or-replicate, get_or-set_other, get_or-set_same, length-replicate, set_past}
 use Rattle.cal_alloc.specs.Limits.{max_memory_size}
@@ -41,7 +41,7 @@ either : (after before pair : Bool) → one_if after ≡ one_if before + one_if 
 either after true pair is holds = inl refl
 either after false true is holds = inr refl
 either after false false is holds =
-    let one : 1 ≡ 0 = ap one_if (sym holds) ∙ is in
+    let one : one_if true ≡ one_if after = ap one_if (sym holds) in
     absurd (omega arith)
 
 -- an offset that its size divides is its index times its size

@@ -62,7 +62,8 @@ module _ (channel segment index : ℕ) where
   times_sent ends (call ∷ calls) [] = 0
   times_sent ends (call ∷ calls) (reply ∷ replies) =
       (if is_on channel call
-      then times_named (segments_at (after_call ends call) channel) (sent_offset (channel_call call) reply) segment index
+      then times_named (segments_at (after_call ends call) channel) (sent_offset (channel_call call) reply) segment
+      index
       else 0)
       + times_sent (after_call ends call) calls replies
 

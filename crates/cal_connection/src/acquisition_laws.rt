@@ -8,9 +8,9 @@ ghost use Rattle.cal_connection.specs.Channel.{ChannelEntry, after_send, after_r
 ghost use Rattle.cal_connection.specs.Port.{PortEntry, IsSendable, IsSoundPort, new_port, channel_at, with_channel};
 ghost use Rattle.cal_connection.specs.UsedPairs.{HasSize};
 
-/// All samples in use can be acquired on a new connection, and each call keeps it so: a send where what is in use in its
-/// segment on its channel was sent with the same size, and every other call always. So a sender that has one size for
-/// each segment may acquire what it sent.
+/// All samples in use can be acquired on a new connection, and each call keeps it so: a send where what is in use in
+/// its segment on its channel was sent with the same size, and every other call always. So a sender that has one size
+/// for each segment may acquire what it sent.
 pub fn what_is_sent_can_be_acquired()
     ensures new { (settings : ConnectionSettings) (word state : ℕ) → IsAcquirable (new_port settings word state) }
     ensures sent { (port : PortEntry) (channel : ℕ) (overflow : Bool) (pointer sample_size : ℕ) →

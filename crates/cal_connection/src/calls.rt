@@ -17,11 +17,11 @@ use cal_alloc::PointerOffset;
 use cal_storage::{DynamicStorage, Registry};
 use std::alloc::{AllocError, Global};
 
-/// Makes calls of both ports of one connection, one after the other, and gives the reply to each. The calls are whatever
-/// the caller likes: so this is what a receiver does that returns anything. It can harm no channel by what it returns,
-/// and the other channels not at all: each answers as it would to its own calls alone, and nothing comes back more
-/// often than it was sent, or was in use before. All memory is taken before the first call; the error says that it ran
-/// out, and nothing has changed then.
+/// Makes calls of both ports of one connection, one after the other, and gives the reply to each. The calls are
+/// whatever the caller likes: so this is what a receiver does that returns anything. It can harm no channel by what it
+/// returns, and the other channels not at all: each answers as it would to its own calls alone, and nothing comes back
+/// more often than it was sent, or was in use before. All memory is taken before the first call; the error says that it
+/// ran out, and nothing has changed then.
 #[tactic(auto, using(crate::proofs::Written::keeps_handles))]
 pub fn run_calls<S: DynamicStorage<SharedManagementData>>(
     alloc: Global,
