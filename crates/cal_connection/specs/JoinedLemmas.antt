@@ -1,5 +1,6 @@
 -- A port that is created under the path of another one is the other end of its entry.
-use Rattle.std.proofs.Common.{◌≡◌, ℕ, Bool, true, false, not, ◌==◌, List, length, replicate, Option, Some, None, if◌then◌else◌, option_map, option_and_then, refl, sym, ap, subst, ◌∙◌}
+use Rattle.std.proofs.Common.{◌≡◌, ℕ, Bool, true, false, not, ◌==◌, List, length, replicate, Option, Some, None, Ok, Err, IfSome, if◌then◌else◌, option_map, option_and_then, refl, sym, ap, subst, ◌∙◌, inl, inr}
+use Rattle.std.specs.Prelude.{◌⊎◌}
 use Rattle.std.specs.Option.{unwrap_or}
 use Rattle.std.proofs.Math.Bool.{beq}
 use Rattle.std.proofs.lemmas.Bool.{eqb-true, not-false}
@@ -15,13 +16,13 @@ use Rattle.cal_storage.specs.Holding.{Holds, IsNamed, JoinsHandles}
 use Rattle.cal_storage.specs.ValueLemmas.{entry_of-with_value-same}
 use Rattle.cal_connection.specs.declared.settings.ConnectionSettings.{ConnectionSettings}
 use Rattle.cal_connection.specs.declared.errors.ZeroCopyCreationError.{ZeroCopyCreationError}
-use Rattle.cal_connection.specs.declared.errors.ZeroCopyCreationError.TheVariants.{AnotherInstanceIsAlreadyConnected, IsBeingCleanedUp, IncompatibleBufferSize, IncompatibleMaxBorrowedSamplesPerChannelSetting, IncompatibleOverflowSetting, IncompatibleNumberOfSamples, IncompatibleNumberOfSegments, IncompatibleNumberOfChannels}
+use Rattle.cal_connection.specs.declared.errors.ZeroCopyCreationError.TheVariants.{AnotherInstanceIsAlreadyConnected, IsBeingCleanedUp, IncompatibleBufferSize, IncompatibleMaxBorrowedSamplesPerChannelSetting, IncompatibleOverflowSetting, IncompatibleNumberOfSamples, IncompatibleNumberOfSegments, IncompatibleNumberOfChannels, NoMemory}
 use Rattle.cal_connection.specs.Calls.{AreJoined}
-use Rattle.cal_connection.specs.Creation.{join_refusal, found_refusal, with_bit, end_handle, new_end, after_joining, after_connecting, after_connecting_at}
+use Rattle.cal_connection.specs.Creation.{early_refusal, join_refusal, found_refusal, with_bit, end_handle, new_end, after_joining, after_connecting, after_connecting_at}
 use Rattle.cal_connection.specs.Plan.{ConnectionPlan, path_of}
 use Rattle.cal_connection.specs.Port.{PortEntry, SenderEnd, ReceiverEnd, no_port, port_at, with_port, settings_at}
 use Rattle.cal_connection.specs.Settings.{completion_size}
-use Rattle.cal_connection.specs.Words.{has_bit, mark}
+use Rattle.cal_connection.specs.Words.{has_bit, mark, receiver_bit}
 
 -- ---- settings
 
@@ -176,3 +177,40 @@ AreJoined-sender contents new sender receiver plan bit holds named path counts n
           ∙ sym (channels_after contents receiver.handle plan bit holds named path new sender.handle new_is end_is)
           ∙ ap (λ id. (unwrap_or (value_of new id) no_port).settings.number_of_channels) same;
     }
+
+-- ---- what the clauses of both creations tell
+
+module _ {T : Type 0} (made : T) where
+  -- a port that was made wasn't refused
+  unrefused_early : (refusal : Option ZeroCopyCreationError) → IfSome refusal (λ error. Ok made ≡ Err error) →
+      refusal ≡ None
+  unrefused_early None refused = refl
+  unrefused_early (Some error) refused = cc
+
+  unrefused_found : (refusal : Option ZeroCopyCreationError) →
+      IfSome refusal (λ error. (Ok made ≡ Err error) ⊎ (Ok made ≡ Err NoMemory)) → refusal ≡ None
+  unrefused_found None refused = refl
+  unrefused_found (Some error) (inl refused) = cc
+  unrefused_found (Some error) (inr refused) = cc
+
+-- a sender was created, and then a receiver under the same path
+pub AreJoined-created : (before contents new : Contents PortEntry) (sender : SenderEnd) (receiver : ReceiverEnd)
+    (checks_version : Bool) (first second : ConnectionPlan) → sender.handle ≡ new_end before first →
+    Holds contents 1 sender.handle → IsNamed contents sender.handle → path_of first ≡ path_of second →
+    IfSome (early_refusal checks_version contents second) (λ error. Ok receiver ≡ Err error) →
+    (early_refusal checks_version contents second ≡ None →
+    IfSome (found_refusal contents second receiver_bit)
+    (λ error. (Ok receiver ≡ Err error) ⊎ (Ok receiver ≡ Err NoMemory))) →
+    new ≡ after_connecting contents second receiver_bit →
+    receiver ≡ record {
+      name = second.name;
+      handle = new_end contents second;
+      borrow_counts = replicate second.options.settings.number_of_channels 0;
+    } → JoinsHandles contents new receiver.handle → AreJoined new sender receiver
+AreJoined-created before contents new sender receiver checks_version first second is_new holds named path early found
+    connected end joins =
+    AreJoined-receiver contents new sender receiver second receiver_bit holds named
+    (ap (λ (h : Handle). h.path) is_new ∙ path-new_end before first ∙ path)
+    (unrefused_found receiver (found_refusal contents second receiver_bit)
+    (found (unrefused_early receiver (early_refusal checks_version contents second) early)))
+    connected (ap (λ (r : ReceiverEnd). r.handle) end) (ap (λ (r : ReceiverEnd). r.borrow_counts) end) joins
