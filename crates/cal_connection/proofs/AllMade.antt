@@ -4,7 +4,7 @@ use Rattle.cal_storage.specs.Contents.{Contents}
 use Rattle.cal_connection.specs.declared.port_call.PortCall.{PortCall}
 use Rattle.cal_connection.specs.declared.port_reply.PortReply.{PortReply}
 use Rattle.cal_connection.specs.Calls.{BothEnds, IsSoundPair, ends_of, side_at, replies_to, after_calls, calls_on, replies_on}
-use Rattle.cal_connection.specs.Port.{PortEntry, ReceiverEnd, channel_at, port_at, channel_of}
+use Rattle.cal_connection.specs.Port.{PortEntry, ReceiverEnd, channel_at, channel_of}
 use Rattle.cal_connection.specs.UsedPairs.{times_used, times_sent, times_back}
 use Rattle.cal_connection.proofs.Made.{AreMade, all_told, all_left, entry_left}
 use Rattle.cal_connection.proofs.OwnCalls.{AgreeOn-same, own_replies, own_side}

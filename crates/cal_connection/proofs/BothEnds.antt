@@ -1,7 +1,7 @@
 -- How a channel is read and written at both ends of a connection, and what no call changes.
-use Rattle.std.proofs.Common.{◌≡◌, ◌≢◌, ℕ, ◌<◌, ◌≤◌, Bool, true, false, ◌&&◌, cond, List, length, refl, sym, ap, ◌∙◌, subst, inl, inr, arith}
+use Rattle.std.proofs.Common.{◌≡◌, ◌≢◌, ℕ, ◌<◌, ◌≤◌, Bool, true, false, List, length, refl, sym, ap, ◌∙◌, subst, inl, inr}
 use Rattle.std.specs.Prelude.{nat_lt, slice_index_or, slice_set, if◌then◌else◌}
-use Rattle.std.proofs.lemmas.Bool.{cases_lt, cond-true, cond-false, and_left, le-ltb}
+use Rattle.std.proofs.lemmas.Bool.{cases_lt, cond-false, and_left, le-ltb}
 use Rattle.std.proofs.lemmas.List.{get_or_default, get_or_past, get_or-set_same, get_or-set_other, length-set, set-get_or}
 use Rattle.cal_connection.specs.declared.port_call.PortCall.{PortCall}
 use Rattle.cal_connection.specs.declared.settings.ConnectionSettings.{ConnectionSettings}

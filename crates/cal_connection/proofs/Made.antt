@@ -1,7 +1,7 @@
 -- Calls of both ports that are made one after the other: each is a step, and the replies so far with those to what is
 -- left are those to all.
-use Rattle.std.proofs.Common.{◌≡◌, ℕ, ◌+◌, ◌<◌, ◌≤◌, Bool, true, false, List, [], ◌∷◌, ◌++◌, length, drop, Option, Some, Result, refl, sym, ap, ◌∙◌, subst, inl, inr, arith, append_assoc}
-use Rattle.std.specs.Prelude.{slice_index_or, slice_set, if◌then◌else◌}
+use Rattle.std.proofs.Common.{◌≡◌, ℕ, ◌+◌, ◌<◌, ◌≤◌, true, false, List, [], ◌∷◌, ◌++◌, length, drop, Option, Result, refl, sym, ap, ◌∙◌, subst, arith, append_assoc}
+use Rattle.std.specs.Prelude.{slice_index_or, slice_set}
 use Rattle.std.specs.Option.{unwrap_or}
 use Rattle.std.proofs.lemmas.Bool.{cond-true, cond-false}
 use Rattle.std.proofs.lemmas.List.{append-nil, drop_all, length-set, length_push, set-get_or}
@@ -15,7 +15,7 @@ use Rattle.cal_connection.specs.declared.port_call.PortCall.{PortCall}
 use Rattle.cal_connection.specs.declared.port_call.PortCall.TheVariants.{Send, Receive, Release, Reclaim}
 use Rattle.cal_connection.specs.declared.port_reply.PortReply.{PortReply}
 use Rattle.cal_connection.specs.declared.port_reply.PortReply.TheVariants.{Unsuited}
-use Rattle.cal_connection.specs.Calls.{BothEnds, AreJoined, MakesCall, IsSuited, ends_of, side_at, with_side, with_counts, called_channel, channel_call, is_suited, suited_reply, reply_to, after_call, replies_to, after_calls, sent_reply, received_reply, released_reply, reclaimed_reply}
+use Rattle.cal_connection.specs.Calls.{BothEnds, AreJoined, MakesCall, IsSuited, ends_of, side_at, with_side, with_counts, called_channel, channel_call, is_suited, suited_reply, reply_to, replies_to, after_calls, sent_reply, received_reply, released_reply, reclaimed_reply}
 use Rattle.cal_connection.specs.Channel.{send_answer, after_send, receive_answer, after_receive, count_after_receive, release_answer, after_release, count_after_release, reclaim_answer, after_reclaim}
 use Rattle.cal_connection.specs.Port.{PortEntry, SenderEnd, ReceiverEnd, IsSendable, no_port, channel_at, port_at, with_port, settings_at, channel_of, with_channel, with_channel_of, count_at, with_count}
 use Rattle.cal_connection.specs.RegistryLemmas.{Has-with_port, port_at-with_port-same, with_port-present, with_port-twice}

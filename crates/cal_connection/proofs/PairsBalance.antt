@@ -1,7 +1,7 @@
 -- On each channel the pairs in use after calls, with each that came back, are those before with each that was sent.
 use Rattle.std.proofs.Common.{◌≡◌, ℕ, ◌+◌, ◌/◌, ◌<◌, ◌≤◌, Bool, true, false, ◌&&◌, ◌==◌, List, [], ◌∷◌, length, Option, Some, None, Result, Ok, Err, refl, sym, ap, ◌∙◌, subst, inl, inr, arith}
 use Rattle.std.specs.Prelude.{◌%◌, not, nat_lt, if◌then◌else◌}
-use Rattle.std.proofs.lemmas.Bool.{cond-true, cond-false, and_parts, ltb-true, not-true, cases_Bool}
+use Rattle.std.proofs.lemmas.Bool.{cond-true, cond-false, and_parts, ltb-true, not-true}
 use Rattle.std.proofs.lemmas.Bool.Decides.{eqb_tells}
 use Rattle.cal_alloc.specs.PointerOffset.{offset_of, segment_of}
 use Rattle.cal_connection.specs.declared.errors.ZeroCopySendError.{ZeroCopySendError}
@@ -10,14 +10,13 @@ use Rattle.cal_connection.specs.declared.errors.ZeroCopyReceiveError.{ZeroCopyRe
 use Rattle.cal_connection.specs.declared.errors.ZeroCopyReclaimError.{ZeroCopyReclaimError}
 use Rattle.cal_connection.specs.declared.errors.ZeroCopyReclaimError.TheVariants.{ReceiverReturnedCorruptedPointerOffset}
 use Rattle.cal_connection.specs.declared.errors.ZeroCopyReleaseError.{ZeroCopyReleaseError}
-use Rattle.cal_connection.specs.declared.errors.ZeroCopyReleaseError.TheVariants.{RetrieveBufferFull}
 use Rattle.cal_connection.specs.declared.port_call.PortCall.{PortCall}
 use Rattle.cal_connection.specs.declared.port_reply.PortReply.{PortReply}
 use Rattle.cal_connection.specs.declared.port_reply.PortReply.TheVariants.{Unsuited}
 use Rattle.cal_connection.specs.declared.segment_details.SegmentDetails.{SegmentDetails}
 use Rattle.cal_connection.specs.declared.settings.ConnectionSettings.{ConnectionSettings}
 use Rattle.cal_connection.specs.Calls.{BothEnds, IsSoundPair, side_at, called_channel, channel_call, is_suited_on, is_free_sample, serves_call, side_left, reply_on, sent_reply, received_reply, released_reply, reclaimed_reply, suited_reply, reply_to, after_call, replies_to, after_calls, is_on}
-use Rattle.cal_connection.specs.Channel.{ChannelEntry, capacity_of, segment_at, is_used, with_entry, after_return, return_answer, is_refused, is_full, is_at_limit, after_push, after_pop, with_room, overflow_of, oldest, receive_answer, release_answer, count_after_receive, count_after_release}
+use Rattle.cal_connection.specs.Channel.{capacity_of, segment_at, is_used, with_entry, after_return, return_answer, is_refused, is_full, is_at_limit, after_push, after_pop, with_room, overflow_of, oldest, receive_answer, release_answer, count_after_receive, count_after_release}
 use Rattle.cal_connection.specs.PortLemmas.{length-segments, samples-segment_at}
 use Rattle.cal_connection.specs.Traffic.{ChannelCall, sends, receives, releases, reclaims, Side, side_after}
 use Rattle.cal_connection.specs.UsedPairs.{one_if, times_used, times_named, returned_offset, offset_if_sent, sent_offset, segments_at, times_sent, times_back}

@@ -1,8 +1,8 @@
 -- Where each sample that is in use was sent with the size that is stored for its segment, the sender can acquire all of
 -- them.
-use Rattle.std.proofs.Common.{◌≡◌, ◌≢◌, ℕ, zero, suc, ◌+◌, ◌*◌, ◌/◌, ◌%◌, ◌^◌, ◌<◌, ◌≤◌, ◌==◌, ◌&&◌, Bool, true, false, List, length, replicate, Option, Some, None, refl, sym, ap, subst, ◌∙◌, inl, inr, arith}
-use Rattle.std.specs.Prelude.{◌⊎◌, slice_index_or, slice_set, if◌then◌else◌}
-use Rattle.std.proofs.lemmas.Bool.{and_parts, cases_Bool, cases_eq, cases_lt, eqb-true, false≢true}
+use Rattle.std.proofs.Common.{◌≡◌, ℕ, ◌+◌, ◌*◌, ◌/◌, ◌%◌, ◌^◌, ◌<◌, ◌==◌, Bool, true, false, List, length, replicate, Option, refl, sym, ap, subst, ◌∙◌, inl, inr, arith}
+use Rattle.std.specs.Prelude.{◌⊎◌, slice_index_or, if◌then◌else◌}
+use Rattle.std.proofs.lemmas.Bool.{and_parts, cases_eq, cases_lt, eqb-true, false≢true}
 use Rattle.std.proofs.lemmas.List.{get_or_past, get_or-replicate, get_or-set_other, get_or-set_same, length-replicate, set_past}
 use Rattle.cal_alloc.specs.Limits.{max_memory_size}
 use Rattle.cal_alloc.specs.PointerOffset.{offset_of, segment_of}
@@ -10,7 +10,7 @@ use Rattle.cal_connection.specs.declared.segment_details.SegmentDetails.{Segment
 use Rattle.cal_connection.specs.declared.settings.ConnectionSettings.{ConnectionSettings}
 use Rattle.cal_connection.specs.declared.errors.ZeroCopySendError.TheVariants.{ConnectionCorrupted}
 use Rattle.cal_connection.specs.Acquisition.{FitsSegments, IsAcquirable}
-use Rattle.cal_connection.specs.Channel.{ChannelEntry, capacity_of, contains, no_segment, segment_at, is_used, new_segment, new_channel, with_used, with_entry, after_return, is_refused, after_send, after_receive, is_at_limit, after_pop, after_release, is_full, after_push, after_reclaim, oldest, overflow_of, with_room, with_word}
+use Rattle.cal_connection.specs.Channel.{ChannelEntry, capacity_of, contains, no_segment, segment_at, is_used, new_segment, new_channel, with_used, with_entry, after_return, is_refused, after_send, after_receive, is_at_limit, after_pop, after_release, is_full, after_push, after_reclaim, oldest, overflow_of, with_room}
 use Rattle.cal_connection.specs.Port.{PortEntry, IsSendable, IsSoundPort, new_port, no_channel, channel_at, with_channel}
 use Rattle.cal_connection.specs.PortLemmas.{length-segments, samples-segment_at}
 use Rattle.cal_connection.specs.UsedPairs.{one_if, is_pair_of, HasSize}

@@ -1,5 +1,5 @@
 -- How often a pair is in use once a sample was put into use or taken out of it.
-use Rattle.std.proofs.Common.{◌≡◌, ℕ, ◌+◌, ◌/◌, ◌%◌, ◌<◌, ◌≤◌, ◌==◌, ◌&&◌, Bool, true, false, not, cond, List, length, map, Option, Some, None, Result, Ok, Err, refl, sym, ap, ◌∙◌, subst, inl, inr, arith}
+use Rattle.std.proofs.Common.{◌≡◌, ℕ, ◌+◌, ◌/◌, ◌%◌, ◌<◌, ◌==◌, ◌&&◌, Bool, true, false, not, cond, List, length, Option, Some, None, Result, Ok, Err, refl, sym, ap, ◌∙◌, subst, inl, inr, arith}
 use Rattle.std.specs.Prelude.{slice_index_or, slice_set, if◌then◌else◌}
 use Rattle.std.proofs.Math.ListN.{get_or-map}
 use Rattle.std.proofs.Math.Seq.{map-set_same}
@@ -8,8 +8,8 @@ use Rattle.std.proofs.lemmas.Bool.Decides.{eqb_tells}
 use Rattle.std.proofs.lemmas.List.{get_or_past, get_or-set_same, get_or-set_other}
 use Rattle.cal_alloc.specs.PointerOffset.{offset_of, segment_of}
 use Rattle.cal_connection.specs.declared.segment_details.SegmentDetails.{SegmentDetails}
-use Rattle.cal_connection.specs.Channel.{UsedChunks, capacity_of, contains, no_segment, segment_at, is_used, names_used_entry, with_used, without_used, with_entry, without_entry, after_return, return_answer}
-use Rattle.cal_connection.specs.UsedPairs.{one_if, times_used, is_pair_of, times_named}
+use Rattle.cal_connection.specs.Channel.{capacity_of, contains, no_segment, segment_at, is_used, names_used_entry, with_used, without_used, with_entry, without_entry, after_return, return_answer}
+use Rattle.cal_connection.specs.UsedPairs.{one_if, times_used, times_named}
 
 plus_zero : (n : ℕ) → n + 0 ≡ n
 plus_zero n = omega arith

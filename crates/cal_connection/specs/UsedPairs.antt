@@ -5,7 +5,7 @@ use Rattle.cal_connection.specs.declared.port_call.PortCall.{PortCall}
 use Rattle.cal_connection.specs.declared.port_reply.PortReply.{PortReply}
 use Rattle.cal_connection.specs.declared.port_reply.PortReply.TheVariants.{Sent, Broken, Reclaimed}
 use Rattle.cal_connection.specs.declared.segment_details.SegmentDetails.{SegmentDetails}
-use Rattle.cal_connection.specs.Calls.{BothEnds, called_channel, channel_call, is_on, after_call}
+use Rattle.cal_connection.specs.Calls.{BothEnds, channel_call, is_on, after_call}
 use Rattle.cal_connection.specs.Channel.{is_used, segment_at}
 use Rattle.cal_connection.specs.Port.{channel_at}
 use Rattle.cal_connection.specs.Traffic.{ChannelCall, sends, receives, releases, reclaims}
