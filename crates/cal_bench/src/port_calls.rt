@@ -41,6 +41,7 @@ pub fn channels_of(words: &[String]) -> Option<(usize, usize)>
 }
 
 /// Numbers that a fixed seed gives.
+#[derive(Drop)]
 struct Random {
     state: u64,
 }
