@@ -1,0 +1,11 @@
+pub mod Chunks
+pub mod Closing
+pub mod Creation
+pub mod Growth
+pub mod Management
+pub mod Memory
+pub mod SegmentNameLemmas
+pub mod SegmentNames
+pub mod Slots
+pub mod Together
+pub mod View
