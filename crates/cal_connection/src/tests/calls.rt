@@ -53,7 +53,7 @@ fn are_answered<S: DynamicStorage<SharedManagementData>>(
     let mut reg = Registry::new(alloc);
     let mut ends = both_ends::<S>(alloc, &mut reg)?;
     let replies = run_calls(alloc, &mut ends.0, &mut ends.1, &mut reg, calls)?;
-    assert_eq!(rt; replies.as_slice(), expected);
+    assert!(rt; replies.as_slice() == expected);
     Ok(())
 }
 
