@@ -55,8 +55,8 @@ pub fn a_chunk_stays_out<A: ShmAllocator>()
 pub fn a_chunk_stays_out_elsewhere<A: ShmAllocator>()
     ensures written { (contents : Contents (Segment A)) (slots : Slots) (id offset : ℕ) (written : List ℕ)
         (chunks : List Chunk) → AreOut A.properties A.IsByteUsed A.IsAllocated contents slots chunks →
-        AreOut A.properties A.IsByteUsed A.IsAllocated (with_written with_bytes contents id offset written) slots chunks
-            }
+        AreOut A.properties A.IsByteUsed A.IsAllocated (with_written with_bytes contents id offset written) slots
+        chunks }
     ensures elsewhere { (old new : Contents (Segment A)) (slots : Slots) (chunks : List Chunk) →
         ((number : ℕ) → segment_value new slots number ≡ segment_value old slots number) →
         AreOut A.properties A.IsByteUsed A.IsAllocated old slots chunks → AreOut A.properties A.IsByteUsed A.IsAllocated
