@@ -1,9 +1,9 @@
 //! Measures the rings: `cal_bench one COUNT` pushes and pops that many values of a submission ring on one thread,
 //! `cal_bench two COUNT` sends them from one thread to another with overflow, and `cal_bench completion COUNT` puts
 //! them into a completion ring and gets them out on one thread. `cal_bench pool COUNT`, `queue` and `used` measure the
-//! plain containers: a chunk got and freed, a value pushed and popped, a number put in and taken out. `cal_bench
-//! channel COUNT` and `channels` make that many calls of both ports of a connection with one channel, and with 1,024.
-//! Each prints the nanoseconds that it took.
+//! plain containers: a chunk got and freed, a value pushed and popped, a number put in and taken out. `channel` and
+//! `channels` make that many calls of both ports of a connection with one channel, and with 1,024. Each prints the
+//! nanoseconds that it took.
 #![tactic(auto)]
 
 mod one_thread;

@@ -43,6 +43,7 @@ pub fn channels_of(words: &[String]) -> Option<(usize, usize)>
 /// Numbers that a fixed seed gives.
 #[derive(Drop)]
 struct Random {
+    /// What the next number follows from.
     state: u64,
 }
 
@@ -135,7 +136,7 @@ pub fn measure<R: Clock + AllocGlobal>(
     channels: usize,
     count: usize,
 ) -> Result<(u128, usize)>
-    requires { 0 < channels }
+    requires some { 0 < channels }
 {
     let alloc = rt.alloc();
     let name = FileName::new(b"bench").unwrap();

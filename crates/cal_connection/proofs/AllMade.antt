@@ -11,8 +11,9 @@ use Rattle.cal_connection.proofs.OwnCalls.{AgreeOn-same, own_replies, own_side}
 use Rattle.cal_connection.proofs.PairsBalance.{balanced_calls, part_of_sum}
 
 module _ (old : Contents PortEntry) (before : ReceiverEnd) (calls : List PortCall) (now : Contents PortEntry)
-    (after : ReceiverEnd) (replies : List PortReply) (made : ℕ) (so_far : AreMade old before calls now after replies made)
-    (all : length calls ≤ made) (sound : IsSoundPair (ends_of old before)) where
+    (after : ReceiverEnd) (replies : List PortReply) (made : ℕ)
+    (so_far : AreMade old before calls now after replies made) (all : length calls ≤ made)
+    (sound : IsSoundPair (ends_of old before)) where
   abbrev ends : BothEnds
   ends = ends_of old before
 

@@ -65,6 +65,7 @@ pub fn run_calls<S: DynamicStorage<SharedManagementData>>(
     ensures unchanged { OnErr result (reg.new ≡ reg.old) }
     ensures counts_unchanged { OnErr result (receiver.new ≡ receiver.old) }
 {
+    // What the ports share is sound: none of its settings is zero.
     let channels = receiver.management_data(reg).settings().number_of_channels;
     prove!(channels > 0);
     let mut replies = Vec::with_capacity(alloc, calls.len())?;
