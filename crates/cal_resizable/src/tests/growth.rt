@@ -24,7 +24,7 @@ fn has_buckets_of<Shm: SharedMemoryForPoolAllocator>(
         .allocation_strategy(strategy);
     let mut memory: DynamicMemory<PoolAllocator, Shm> = builder.create(alloc, &mut reg)?;
     memory.allocate(alloc, &mut reg, Layout::new(1500, 16).ok_or("a layout")?)?;
-    assert_eq!(rt; memory.bucket_size(&reg, memory.current_segment()), size);
+    assert!(rt; memory.bucket_size(&reg, memory.current_segment()) == size);
     Ok(())
 }
 
