@@ -2,4 +2,6 @@
 //! storage take far longer to prove.
 
 mod fixtures;
+mod growth;
+mod refusals;
 mod segments;
