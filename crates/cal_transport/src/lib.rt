@@ -8,6 +8,7 @@ pub mod examples;
 mod fill_list;
 pub mod laws;
 mod memory;
+pub mod ported;
 mod replies;
 mod reply;
 mod run;
