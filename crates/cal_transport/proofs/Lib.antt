@@ -35,4 +35,10 @@ pub mod Transits
 pub mod Update
 pub mod Writes
 pub mod Writing
+pub mod Totals
+pub mod Settled
+pub mod Changed
+pub mod Kept
+pub mod Channels
+pub mod GeneralStep
 mod Serving

@@ -21,3 +21,7 @@ pub mod Rounds
 pub mod Examples
 pub mod OrderExamples
 pub mod Serve
+pub mod Weights
+pub mod ChunkEntry
+pub mod Core
+pub mod Shown
