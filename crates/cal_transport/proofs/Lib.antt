@@ -41,4 +41,9 @@ pub mod Changed
 pub mod Kept
 pub mod Channels
 pub mod GeneralStep
+pub mod Fronts
+pub mod Mapped
+pub mod Marks
+pub mod Stands
+pub mod ReceiveStep
 mod Serving

@@ -25,3 +25,4 @@ pub mod Weights
 pub mod ChunkEntry
 pub mod Core
 pub mod Shown
+pub mod Viewing
