@@ -46,4 +46,8 @@ pub mod Mapped
 pub mod Marks
 pub mod Stands
 pub mod ReceiveStep
+pub mod ReleaseStep
+pub mod LeavingStep
+pub mod Unmarked
+pub mod ReclaimStep
 mod Serving
