@@ -50,4 +50,6 @@ pub mod ReleaseStep
 pub mod LeavingStep
 pub mod Unmarked
 pub mod ReclaimStep
+pub mod SendStep
+pub mod DiscardStep
 mod Serving
