@@ -52,4 +52,6 @@ pub mod Unmarked
 pub mod ReclaimStep
 pub mod SendStep
 pub mod DiscardStep
+pub mod Finding
+pub mod SendAnswers
 mod Serving
