@@ -228,7 +228,7 @@ module _ (l : Ledger) (x : Change) (c : Changes l x) where
       | inl same ↦ subst (λ s. ShowsActive after s (p'.active s)) (sym same)
           (subst (ShowsActive after x.old_chunk.segment) (sym (without dead))
           (active_here (p.active x.old_chunk.segment) alive dead (shows x.old_chunk.segment)))
-      | inr apart ↦ subst (ShowsActive after segment) (sym (gives.else segment apart))
+      | inr apart ↦ subst (ShowsActive after segment) (sym (gives.others segment apart))
           (active_kept l after segment (p.active segment) (else_alike alive segment apart) (shows segment))
     ]
   ]
@@ -239,7 +239,7 @@ module _ (l : Ledger) (x : Change) (c : Changes l x) where
             ∙ ap (λ b. cond b (p.active x.old_chunk.segment) (given_back (nat_eq x.old_chunk.segment p.current)
             x.old_chunk.bucket (p.active x.old_chunk.segment))) lives
             ∙ ap p.active (sym same)
-        | inr apart ↦ gives.else segment apart
+        | inr apart ↦ gives.others segment apart
       ]
 
       without : is_live after x.new_chunk ≡ false → p'.active x.old_chunk.segment
@@ -256,7 +256,7 @@ module _ (l : Ledger) (x : Change) (c : Changes l x) where
     pub payload : (segment : ℕ) (shown : ActiveSegment) → p'.active segment ≡ Some shown →
         (before : ActiveSegment) × (p.active segment ≡ Some before) × (shown.payload ≡ before.payload)
 
-  abbrev ShowsAllBytes : Core → Ledger → Type 0
+  abbrev pub ShowsAllBytes : Core → Ledger → Type 0
   ShowsAllBytes p l = (i : ℕ) (chunk : Chunk) (shown : ActiveSegment) → slice_get l.chunks i ≡ Some chunk →
       is_live l chunk ≡ true → p.active chunk.segment ≡ Some shown → ShowsBytes l chunk shown
 
@@ -307,7 +307,7 @@ module _ (l : Ledger) (x : Change) (c : Changes l x) where
         transits = n;
       }) (sym (transits_else l x c d.name (other_name l x c j d apart there))))
 
-  abbrev Owns : (ℕ → List ℕ) → Ledger → Type 0
+  abbrev pub Owns : (ℕ → List ℕ) → Ledger → Type 0
   Owns owners l = (i : ℕ) (chunk : Chunk) → slice_get l.chunks i ≡ Some chunk → is_live l chunk ≡ true →
       slice_get (owners chunk.segment) chunk.bucket ≡ Some i
 

@@ -39,7 +39,7 @@ gives_payloads l x c p p' kept segment bucket gives = record {
         let at = payload_here kept (nat_eq segment p.current) bucket (p.active segment) shown
         (sym gives.here ∙ ap p'.active (sym same) ∙ has) in
         (at.0, ap p.active same ∙ at.1, at.2)
-    | inr apart ↦ (shown, sym (gives.else other apart) ∙ has, refl)
+    | inr apart ↦ (shown, sym (gives.others other apart) ∙ has, refl)
   ];
 }
 

@@ -35,6 +35,7 @@ pub mod Transits
 pub mod Update
 pub mod Writes
 pub mod Writing
+pub mod EntryLookup
 pub mod Totals
 pub mod Settled
 pub mod Changed

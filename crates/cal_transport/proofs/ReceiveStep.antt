@@ -289,6 +289,9 @@ module _ (p p' : Core) (l : Ledger) (s : IsSettled l) (k : ℕ) (h : ChannelHist
       { opened_last = opened_after_receive l (Some f.chunk); chunks = chunks })
       (sym (set_there l.chunks f.index f.chunk f.stands))
 
+  abbrev reply : Reply
+  reply = Received (Some (record { chunk = f.chunk.name; segment = segment_of pointer; place = offset_of pointer }))
+
   pub receives_front : (place : ℕ) → history_on l k ≡ h → receive_cause l k ≡ None →
       Steps p' l place (command.Receive k) (Received (Some (record {
         chunk = f.chunk.name;
@@ -296,10 +299,10 @@ module _ (p p' : Core) (l : Ledger) (s : IsSettled l) (k : ℕ) (h : ChannelHist
         place = offset_of pointer;
       })))
   receives_front place on none =
-      done p' l after place (command.Receive k) _ none
+      done p' l after place (command.Receive k) reply none
       (ap Received (sym (ap (λ e. slot_named l (front (queued_names e))) on
       ∙ slot_at l s f.index f.chunk (queued_names h) f.rest pointer f.stands f.names_are f.pointer_is)))
-      (made place _ on)
+      (made place reply on)
       (shows_after l change changes p p' alive steps shows) (tracks_after l change changes p p' alive steps tracks)
 
 -- the pointer that a channel's queue gives is that of its oldest chunk

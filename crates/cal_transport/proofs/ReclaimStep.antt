@@ -114,6 +114,9 @@ module _ (p p' : Core) (l : Ledger) (s : IsSettled l) (k : ℕ) (h : ChannelHist
       ∙ ap (λ chunks. record (with_history l k now) { chunks = chunks })
       (sym (set_there l.chunks f.index f.chunk f.stands))
 
+  abbrev reply : Reply
+  reply = Reclaimed (Some (record { chunk = f.chunk.name; segment = segment_of pointer; place = offset_of pointer }))
+
   pub reclaims_front : (place : ℕ) → history_on l k ≡ h → reclaim_cause l k ≡ None → ReclaimsAt →
       LeavesAt l s k f.index h now f.chunk here f.stands reclaim_leaves p p' →
       Steps p' l place (command.Reclaim k) (Reclaimed (Some (record {
@@ -122,10 +125,10 @@ module _ (p p' : Core) (l : Ledger) (s : IsSettled l) (k : ℕ) (h : ChannelHist
         place = offset_of pointer;
       })))
   reclaims_front place on none r leaves =
-      done p' l after place (command.Reclaim k) _ none
+      done p' l after place (command.Reclaim k) reply none
       (ap Reclaimed (sym (ap (λ e. slot_named l (front (completed_names e))) on
       ∙ slot_at l s f.index f.chunk (completed_names h) f.rest pointer f.stands f.names_are f.pointer_is)))
-      (made place _ on)
+      (made place reply on)
       (leaving_shows l s k f.index h now f.chunk here f.stands reclaim_leaves p p' leaves (moves r) shows tracks)
       (leaving_tracks l s k f.index h now f.chunk here f.stands reclaim_leaves p p' leaves (moves r) shows tracks)
 
@@ -170,7 +173,7 @@ names_used_chunk p l s k h here shows i chunk pointer there transit is =
     let at = is_pointer l s i chunk there in
     let was = shows.channels k h here in
     record {
-      segment = ap segment_of is ∙ at.segment;
+      lies = ap segment_of is ∙ at.segment;
       offset = ap offset_of is ∙ at.offset;
       positive = at.size;
       stored = was.sizes i chunk there transit;

@@ -168,10 +168,10 @@ module _ (l : Ledger) (s : IsSettled l) (k : ℕ) (h : ChannelHistory) (here : s
     orderly : IsOrderly h
     orderly = s.orderly k h here
 
-    settled_middle : IsSettled middle
+    pub settled_middle : IsSettled middle
     settled_middle = sending_settled l s k h here m
 
-    here_middle : slice_get middle.histories k ≡ Some now
+    pub here_middle : slice_get middle.histories k ≡ Some now
     here_middle = slice_get-set_same l.histories k h now here
 
     -- the oldest isn't the chunk that is sent
@@ -184,7 +184,7 @@ module _ (l : Ledger) (s : IsSettled l) (k : ℕ) (h : ChannelHistory) (here : s
     other_name : f.chunk.name ≢ name
     other_name = s.names f.index m.index f.chunk m.chunk f.stands m.stands apart
 
-    stands_middle : slice_get middle.chunks f.index ≡ Some f.chunk
+    pub stands_middle : slice_get middle.chunks f.index ≡ Some f.chunk
     stands_middle = slice_get-set_else l.chunks m.index f.index (sent_chunk m.chunk) apart ∙ f.stands
 
     names_middle : queued_names now ≡ f.chunk.name ∷ f.rest ++ name ∷ []
@@ -277,6 +277,9 @@ module _ (l : Ledger) (s : IsSettled l) (k : ℕ) (h : ChannelHistory) (here : s
         ∙ ap (λ chunks. record l { chunks = chunks; histories = set (set l.histories k now) k end })
         (sym (set_there middle.chunks f.index f.chunk stands_middle))
 
+    abbrev reply : Reply
+    reply = Sent (Some (record { chunk = f.chunk.name; segment = segment_of pointer; place = offset_of pointer }))
+
     pub sends_over : (p q p' : Core) (place : ℕ) → Shows p l → Tracks p l → history_on l k ≡ h →
         cause l (command.Send k name) ≡ None → is_buffer_full l h ≡ true → SendsAt l s k h here m p q →
         OverflowsAt q p' →
@@ -292,11 +295,11 @@ module _ (l : Ledger) (s : IsSettled l) (k : ℕ) (h : ChannelHistory) (here : s
         let shows_middle = sending_shows l s k h here m p q r shows tracks in
         let tracks_middle = sending_tracks l s k h here m p q r shows tracks in
         let at = moves q p' o shows_middle in
-        done p' l (changed middle (leaving middle k f.index now end f.chunk)) place (command.Send k name) _ none
+        done p' l (changed middle (leaving middle k f.index now end f.chunk)) place (command.Send k name) reply none
         (ap Sent (sym (slot_at l s f.index f.chunk (queued_names h) f.rest pointer f.stands f.names_are f.pointer_is))
         ∙ ap (λ names. Sent (slot_named l (front names))) f.names_are
         ∙ sent_owes (Some f.chunk.name) on back)
-        (made place _ on back)
+        (made place reply on back)
         (leaving_shows middle settled_middle k f.index now end f.chunk here_middle stands_middle overflow_leaves q p'
         leaves at shows_middle tracks_middle)
         (leaving_tracks middle settled_middle k f.index now end f.chunk here_middle stands_middle overflow_leaves q p'

@@ -1,5 +1,5 @@
 -- The used entries of a channel after one was taken out: an offset whose chunk is in transit names one.
-use Rattle.std.proofs.Common.{ℕ, ◌*◌, ◌/◌, ◌%◌, ◌<◌, ◌≡◌, ◌≢◌, Bool, true, false, cond, not, ◌&&◌, nat_eq, List, length, map, set, Some, Ok, Err, inl, inr, refl, sym, ap, ◌∙◌, subst, arith}
+use Rattle.std.proofs.Common.{ℕ, ◌*◌, ◌≤◌, ◌/◌, ◌%◌, ◌<◌, ◌≡◌, ◌≢◌, Bool, true, false, cond, not, ◌&&◌, nat_eq, List, length, map, set, Option, Some, Result, Ok, Err, inl, inr, refl, sym, ap, ◌∙◌, subst, arith}
 use Rattle.std.proofs.Math.Nat.{mul-div_cancel, mul-mod_left}
 use Rattle.std.proofs.lemmas.Bool.{true≢false, and_from, ne_eqb, eq-eqb, cases_lt}
 use Rattle.std.proofs.lemmas.List.{get_or-set_same, get_or-set_other, get_or_past, length-set}
@@ -21,7 +21,7 @@ pub record Unmarks (old new : List SegmentDetails) (segment bucket : ℕ) : Type
 
 -- an offset of a used entry, as the stored size tells it
 pub record IsUsedEntry (segments : List SegmentDetails) (pointer segment bucket size : ℕ) : Type 0 where
-  pub segment : segment_of pointer ≡ segment
+  pub lies : segment_of pointer ≡ segment
   pub offset : offset_of pointer ≡ bucket * size
   pub positive : 1 ≤ size
   pub stored : (segment_at segments segment).sample_size ≡ size
@@ -44,7 +44,7 @@ module _ (segments : List SegmentDetails) (pointer segment bucket size : ℕ)
 
   pub names_it : names_used_entry segments pointer ≡ true
   names_it =
-      ap (λ s. names_used (segment_at segments s) (offset_of pointer)) u.segment
+      ap (λ s. names_used (segment_at segments s) (offset_of pointer)) u.lies
       ∙ all_three (not (nat_eq details.sample_size 0)) (nat_eq (offset_of pointer % details.sample_size) 0)
       (contains details.used (offset_of pointer / details.sample_size))
       (ap not (ap (λ n. nat_eq n 0) u.stored ∙ ne_eqb size 0 (λ e. (let p = u.positive in absurd (omega arith)))))
@@ -54,7 +54,7 @@ module _ (segments : List SegmentDetails) (pointer segment bucket size : ℕ)
 
   pub returned_is : {E : Type 0} (error : E) → return_answer error segments (Some pointer) ≡ Ok (Some pointer)
   returned_is {E} error =
-      ap (λ b. cond b (Ok {E = E} (Some pointer)) (Err error)) names_it
+      ap {B = Result (Option ℕ) E} (λ b. cond b (Ok (Some pointer)) (Err error)) names_it
 
   within : segment < length segments
   within = elim (cases_lt segment (length segments)) [
@@ -70,7 +70,7 @@ module _ (segments : List SegmentDetails) (pointer segment bucket size : ℕ)
   left_is : left ≡ set segments segment (without_used details (offset_of pointer))
   left_is =
       ap (λ b. cond b (without_entry segments pointer) segments) names_it
-      ∙ ap (λ s. set segments s (without_used (segment_at segments s) (offset_of pointer))) u.segment
+      ∙ ap (λ s. set segments s (without_used (segment_at segments s) (offset_of pointer))) u.lies
 
   at_here : segment_at left segment ≡ without_used details (offset_of pointer)
   at_here =

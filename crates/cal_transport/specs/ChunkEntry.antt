@@ -1,5 +1,7 @@
 -- Entries of chunks in the order of their names.
-use Rattle.std.specs.Prelude.{ℕ, ◌<◌, ◌≡◌, ◌≢◌, List, [], Some, Vec, slice_get, slice_index_or, map}
+use Rattle.std.specs.Prelude.{ℕ, ◌<◌, ◌≡◌, ◌≢◌, List, [], Some, slice_get, slice_index_or, map}
+use Rattle.std.specs.Prelude.{Vec, vec_items}
+use Rattle.std.specs.declared.alloc.Global.{Global}
 use Rattle.cal_transport.specs.declared.ported.chunk_entry.ChunkEntry.{ChunkEntry}
 use Rattle.cal_transport.specs.declared.ported.chunk_entry.Found.{Found}
 
@@ -17,8 +19,8 @@ abbrev pub IsFound : List ChunkEntry → ℕ → Found → Type 0
 IsFound entries name found = (slice_get entries found.index ≡ Some found.entry) × (found.entry.name ≡ name)
 
 -- the owners of a segment's buckets; a segment that isn't there has none
-abbrev pub owners_at : List (List ℕ) → ℕ → List ℕ
-owners_at owners segment = slice_index_or owners segment []
+abbrev pub owners_of : List (Vec ℕ Global) → ℕ → List ℕ
+owners_of owners segment = slice_index_or (map vec_items owners) segment []
 
 -- the bucket leads to an entry
 pub record LeadsToEntry (entries : List ChunkEntry) (owners : List ℕ) (bucket : ℕ) : Type 0 where

@@ -51,6 +51,6 @@ given_back is_current bucket (Some segment) = if_active is_current (without_buck
 -- a bucket of a segment was given back unless it is kept; all else of the memory is as it was
 pub record GivesBack (p p' : Core) (kept : Bool) (segment bucket : ℕ) : Type 0 where
   pub current : p'.current ≡ p.current
-  pub else : (other : ℕ) → other ≢ segment → p'.active other ≡ p.active other
+  pub others : (other : ℕ) → other ≢ segment → p'.active other ≡ p.active other
   pub here : p'.active segment
       ≡ (if kept then p.active segment else given_back (segment == p.current) bucket (p.active segment))

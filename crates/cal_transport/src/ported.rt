@@ -2,12 +2,3 @@
 //! proved.
 
 mod chunk_entry;
-mod count;
-mod opening;
-mod receiver;
-mod sender;
-mod taking_back;
-#[cfg(test)]
-mod tests;
-mod transit;
-pub mod transport;
