@@ -55,4 +55,6 @@ pub mod SendStep
 pub mod DiscardStep
 pub mod Finding
 pub mod SendAnswers
+pub mod WriteStep
+pub mod ReadStep
 mod Serving
