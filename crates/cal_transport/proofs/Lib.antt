@@ -57,4 +57,5 @@ pub mod Finding
 pub mod SendAnswers
 pub mod WriteStep
 pub mod ReadStep
+pub mod GrowthStep
 mod Serving
