@@ -51,7 +51,7 @@ pub record GrowsAt (p p' : Core) (next : SegmentLayout) (fresh : ActiveSegment) 
   pub in_transit : p'.in_transit ≡ p.in_transit
 
 -- nothing weighs anything
-total_none : {A : Type 0} (f : A → ℕ) (xs : List A) → ((j : ℕ) (x : A) → slice_get xs j ≡ Some x → f x ≡ 0) →
+pub total_none : {A : Type 0} (f : A → ℕ) (xs : List A) → ((j : ℕ) (x : A) → slice_get xs j ≡ Some x → f x ≡ 0) →
     total f xs ≡ 0
 total_none f [] none = refl
 total_none f (x ∷ xs) none =

@@ -58,4 +58,5 @@ pub mod SendAnswers
 pub mod WriteStep
 pub mod ReadStep
 pub mod GrowthStep
+pub mod LendStep
 mod Serving
