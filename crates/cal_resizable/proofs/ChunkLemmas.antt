@@ -12,13 +12,13 @@ use Rattle.cal_resizable.specs.Slots.{Handle, Slots, HeldSegment, segment_at, wi
 use Rattle.cal_resizable.proofs.KeepingLemmas.{held_is, with_more-is}
 use Rattle.cal_resizable.proofs.SlotLemmas.{segment_at-set-same, within_slots}
 
-offset_back : (offset number : ℕ) → number < 256 → offset_of (pointer_offset offset number) ≡ offset
+pub offset_back : (offset number : ℕ) → number < 256 → offset_of (pointer_offset offset number) ≡ offset
 offset_back offset number small = omega (arith, small)
 
-segment_back : (offset number : ℕ) → number < 256 → segment_of (pointer_offset offset number) ≡ number
+pub segment_back : (offset number : ℕ) → number < 256 → segment_of (pointer_offset offset number) ≡ number
 segment_back offset number small = omega (arith, small)
 
-in_first : (chunk : ℕ) → segment_of chunk ≡ 0 → chunk ≡ pointer_offset (offset_of chunk) 0
+pub in_first : (chunk : ℕ) → segment_of chunk ≡ 0 → chunk ≡ pointer_offset (offset_of chunk) 0
 in_first chunk first = omega (arith, first)
 
 -- the segment of a number, counted once more

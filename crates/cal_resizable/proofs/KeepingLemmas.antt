@@ -142,13 +142,13 @@ module _ (slots : Slots) (number : ℕ) (held : HeldSegment) (at : segment_at sl
   pub length_less : length (with_less slots number) ≡ length slots
   length_less = length-set slots number (counted_less (segment_at slots number))
 
-  less_at : segment_at (with_less slots number) number ≡ Some (record held { count = held.count - 1 })
+  pub less_at : segment_at (with_less slots number) number ≡ Some (record held { count = held.count - 1 })
   less_at = ap (λ s. segment_at s number) with_less-is
       ∙ segment_at-set-same slots number (Some (record held { count = held.count - 1 })) (within_slots slots number held at)
 
 module _ (memory : MemoryState) (sound : IsSoundMemory memory) (number : ℕ) (held : HeldSegment)
     (at : segment_at memory.slots number ≡ Some held) where
-  abbrev less : Slots
+  abbrev pub less : Slots
   less = with_less memory.slots number
 
   pub apart_less : AreApart less
@@ -160,7 +160,7 @@ module _ (memory : MemoryState) (sound : IsSoundMemory memory) (number : ℕ) (h
   abbrev pub IsKeptThere : ℕ → HeldSegment → Type 0
   IsKeptThere = IsKept less number within_less apart_less
 
-  kept_there : EachHeld (without_unused less number) IsKeptThere
+  pub kept_there : EachHeld (without_unused less number) IsKeptThere
   kept_there = each_is_kept less number within_less apart_less
 
   pub IsSoundMemory-return : 0 < held.count → IsSoundMemory (after_return memory number)
@@ -225,7 +225,7 @@ module _ (memory : MemoryState) (sound : IsSoundMemory memory) (number : ℕ) (h
         (each_stays_there leaves) has
 
 -- a slot that is counted
-some_counted : (slot : Option HeldSegment) → 0 < count_in slot →
+pub some_counted : (slot : Option HeldSegment) → 0 < count_in slot →
     (held : HeldSegment) × (slot ≡ Some held) × (0 < held.count)
 some_counted None some = absurd (omega arith)
 some_counted (Some held) some = (held, refl, some)

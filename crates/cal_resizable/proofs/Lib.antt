@@ -1,16 +1,27 @@
 mod AllocationLemmas
+mod AloneLemmas
 mod ChunkLemmas
 mod ClosingLemmas
 mod CreationLemmas
 pub mod CutLemmas
+mod FinishedLemmas
+mod FullLemmas
 mod GrowthLemmas
+mod GuestLemmas
 mod KeepingLemmas
 mod LeavingLemmas
 mod ManagementLemmas
 mod MemoryLemmas
+mod OutLemmas
+mod SegmentLemmas
+mod SharingLemmas
 mod SlotLemmas
+mod StayingLemmas
+mod StayingTogetherLemmas
+mod TogetherLemmas
 mod ViewCallLemmas
 mod ViewLawLemmas
 mod ViewLemmas
 mod ViewOpenLemmas
 mod ViewSlotLemmas
+mod WritingLemmas

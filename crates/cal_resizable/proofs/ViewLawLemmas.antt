@@ -39,6 +39,13 @@ mapped-law view number is = (
     back None there (inr counted) = absurd counted
     back (Some held) there why = refl
 
+pub entry-sound : {A : Type 0} (checks : Bool) (entry : Entry (Segment A)) → entry.version ≡ finished_version →
+    entry_refusal checks (Some entry) ≡ None
+entry-sound false entry is = refl
+entry-sound true entry is =
+    ap (λ v. if v == 0 then Some storage.InitializationNotYetFinalized
+    else if v == finished_version then None else Some storage.VersionMismatch) is
+
 module _ {A : Type 0} (checks_version : Bool) (contents : Contents (Segment A)) (view : View) (number : ℕ) where
   pub mapped_arrival : IsSome (segment_at view.slots number) →
       arrival_refusal checks_version contents view number ≡ None
@@ -69,13 +76,6 @@ module _ {A : Type 0} (checks_version : Bool) (contents : Contents (Segment A)) 
     where
       shorter : (less more : ℕ) → less ≤ more → nat_lt 255 more ≡ false → nat_lt 255 less ≡ false
       shorter less more le fits = grind (arith, nat_tests)
-
-  entry-sound : (checks : Bool) (entry : Entry (Segment A)) → entry.version ≡ finished_version →
-      entry_refusal checks (Some entry) ≡ None
-  entry-sound false entry is = refl
-  entry-sound true entry is =
-      ap (λ v. if v == 0 then Some storage.InitializationNotYetFinalized
-      else if v == finished_version then None else Some storage.VersionMismatch) is
 
   pub sound_arrival : (entry : Entry (Segment A)) → IsView view → number < 256 →
       entry_at contents (segment_path view number) ≡ Some entry → entry.version ≡ finished_version →

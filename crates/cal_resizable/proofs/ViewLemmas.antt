@@ -109,7 +109,7 @@ SparesHandles-same contents before after =
 
 -- ---- a segment is opened and becomes the current one
 
-LeavesHandle-after_opening : {T : Type 0} (contents : Contents T) (id : ℕ) (handle : Handle) →
+pub LeavesHandle-after_opening : {T : Type 0} (contents : Contents T) (id : ℕ) (handle : Handle) →
     LeavesHandle contents (after_opening contents id) handle
 LeavesHandle-after_opening {T = T} contents id handle = record {
   has = λ has. Has-ChangesEntry contents (after_opening contents id) handle has id (one_holder_more {T = T}) (λ entry. refl)
@@ -211,18 +211,18 @@ module _ {T : Type 0} (contents : Contents T) (view : View) (is : IsView view) (
   inside : number < length view.slots
   inside = held-within view.slots number old there
 
-  abbrev fewer : Slots
+  abbrev pub fewer : Slots
   fewer = with_less view.slots number
 
-  abbrev fewer_view : View
+  abbrev pub fewer_view : View
   fewer_view = record view { slots = fewer }
 
-  fewer-HasPaths : HasPaths fewer_view
+  pub fewer-HasPaths : HasPaths fewer_view
   fewer-HasPaths = HasPaths-from view (HasPaths-view view is) fewer
       (length-set view.slots number (counted_less (segment_at view.slots number)) ∙ is.slots)
       (with_less-ComesFrom view.slots number inside)
 
-  fewer-HasView : HasView contents fewer_view
+  pub fewer-HasView : HasView contents fewer_view
   fewer-HasView = HasView-from contents view (HasPaths-view view is) has fewer
       (with_less-ComesFrom view.slots number inside)
 

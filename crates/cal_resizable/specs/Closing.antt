@@ -1,6 +1,7 @@
 -- What it means that a memory or a view closes.
-use Rattle.std.specs.Prelude.{◌≢◌, Some, None, List, [], ◌∷◌, ⊤}
+use Rattle.std.specs.Prelude.{◌≢◌, ℕ, ◌+◌, ◌<◌, ◌^◌, Some, None, List, [], ◌∷◌, ⊤}
 use Rattle.cal_storage.specs.Contents.{Contents, Has, after_close}
+use Rattle.cal_storage.specs.Holding.{Holds}
 use Rattle.cal_resizable.specs.Slots.{Handle, Slots}
 
 -- the handles of the segments that are held, by their numbers
@@ -24,3 +25,9 @@ module _ {T : Type 0} where
   abbrev pub CanClose : Contents T → List Handle → Type 0
   CanClose contents [] = ⊤
   CanClose contents (handle ∷ handles) = Has contents handle × AreElsewhere handle handles × CanClose contents handles
+
+  -- of the holders of any entry one is lost at most
+  abbrev pub LeavesAllSharers : Contents T → Contents T → Type 0
+  LeavesAllSharers old new =
+      (count : ℕ) (handle : Handle) → 0 < count → count + 1 < 2 ^ 64 → Holds old (count + 1) handle →
+      Holds new count handle

@@ -1,7 +1,9 @@
 -- How a growing memory hands out a chunk, and what it plans where its current segment refuses one.
-use Rattle.std.specs.Prelude.{◌≡◌, ℕ, ◌+◌, Bool, true, false, not, ◌&&◌, ◌||◌, ◌==◌, nat_le, Option, Some, None, IsSomeAnd, Result, Ok, Err, List, ◌++◌, if◌then◌else◌}
+use Rattle.std.specs.Prelude.{◌≡◌, ℕ, ◌+◌, Bool, true, false, not, ◌&&◌, ◌||◌, ◌==◌, nat_le, Option, Some, None, is_some, IsSomeAnd, Result, Ok, Err, List, ◌++◌, if◌then◌else◌}
 use Rattle.std.specs.Option.{option_map}
+use Rattle.cal_alloc.specs.Hints.{pool_resize_hint}
 use Rattle.cal_alloc.specs.PointerOffset.{pointer_offset, offset_of}
+use Rattle.cal_alloc.specs.Pool.{Pool, buckets_within, pool_refusal}
 use Rattle.cal_alloc.specs.SizeAndAlignment.{SizeAndAlignment}
 use Rattle.cal_alloc.specs.declared.allocation_strategy.AllocationStrategy.{AllocationStrategy}
 use Rattle.cal_alloc.specs.declared.allocation_strategy.AllocationStrategy.TheVariants.{BestFit, PowerOfTwo, Static}
@@ -36,6 +38,15 @@ abbrev pub grows : AllocationStrategy → Bool
 grows BestFit = true
 grows PowerOfTwo = true
 grows Static = false
+
+-- how many buckets the next segment has that an allocation of a layout would make: none where the pool of the current one
+-- serves the layout, where memory of this strategy doesn't grow, or where no further segment can be
+abbrev pub next_number_of_buckets : AllocationStrategy → ℕ → SizeAndAlignment → Pool → Option ℕ
+next_number_of_buckets strategy current layout pool =
+    if is_some (pool_refusal pool layout) && (grows strategy && not (current == 255))
+    then option_map (λ hint. (buckets_within hint.payload_size hint.config.bucket_layout).count)
+    (pool_resize_hint pool layout strategy)
+    else None
 
 -- the registry with the segment of a number, and a fact of its allocator and payload
 abbrev pub OfSegment : {T : Type 0} → Contents T → Slots → ℕ → (T → Type 0) → Type 0

@@ -1,3 +1,4 @@
+pub mod Chunks
 pub mod Closing
 pub mod Creation
 pub mod Growth
@@ -6,4 +7,5 @@ pub mod Memory
 pub mod SegmentNameLemmas
 pub mod SegmentNames
 pub mod Slots
+pub mod Together
 pub mod View

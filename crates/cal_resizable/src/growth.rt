@@ -1,15 +1,17 @@
 //! How a growing memory plans its next segment, and makes it. Ported from `resizable_shared_memory/dynamic.rs` of
 //! iceoryx2-cal 0.9.3.
-ghost use Rattle.std.specs.Prelude.{◌≡◌, ◌<◌, ◌⊎◌, ℕ, true, Some, None, IfSome, IfOk, IfErr, OnOk, OnErr};
+ghost use Rattle.std.specs.Prelude.{◌≡◌, ◌<◌, ◌⊎◌, ℕ, true, Some, None, is_some, IfSome, IfOk, IfErr, OnOk, OnErr};
+ghost use Rattle.cal_alloc.specs.Pool.{pool_refusal};
 ghost use Rattle.cal_names.specs.ConceptSettings.{file_path_for};
 ghost use Rattle.cal_storage.specs.Contents.{id_at, after_creation, new_handle};
 ghost use Rattle.cal_storage.specs.Holding.{Holds, IsNamed};
 ghost use Rattle.cal_storage.specs.Refusals.{finished_version};
-ghost use Rattle.cal_resizable.specs.Growth.{may_help, grows, growth_plan, segment_plan, segment_refusal, made_segment};
+ghost use Rattle.cal_resizable.specs.Growth.{may_help, grows, growth_plan, next_number_of_buckets, segment_plan, segment_refusal, made_segment};
 
 use crate::errors::ResizableShmAllocationError;
 use cal_alloc::{
-    AllocationStrategy, Layout, SharedMemorySetupHint, ShmAllocationError, ShmAllocator,
+    AllocationStrategy, Layout, PoolAllocator, SharedMemorySetupHint, ShmAllocationError,
+    ShmAllocator,
 };
 use cal_names::{FileName, NamedConceptBuilder};
 use cal_shm::{AllocatorDetails, SharedMemory, SharedMemoryBuilder, SharedMemoryCreateError};
@@ -69,6 +71,38 @@ pub(crate) fn plan_growth<A: ShmAllocator>(
     match allocator.resize_hint(layout, strategy) {
         Ok(hint) => Ok(hint),
         Err(_) => Err(ResizableShmAllocationError::SizeOutOfRange),
+    }
+}
+
+/// Whether a pool refuses a layout.
+fn is_refused(pool: &PoolAllocator, layout: Layout) -> bool
+    ensures { result ≡ is_some (pool_refusal pool.now layout) }
+{
+    if pool.max_alignment() < layout.align() {
+        return true;
+    }
+    if pool.bucket_size() < layout.size() {
+        return true;
+    }
+    pool.number_of_used_buckets() == pool.number_of_buckets()
+}
+
+/// How many buckets the next segment would have, where the pool of the current one doesn't serve a layout and memory of
+/// this strategy would grow for it.
+pub(crate) fn next_number_of_buckets(
+    pool: &PoolAllocator,
+    strategy: AllocationStrategy,
+    current: u8,
+    layout: Layout,
+) -> Option<usize>
+    ensures number { result ≡ next_number_of_buckets strategy current layout pool.now }
+{
+    if !is_refused(pool, layout) || !grows(strategy) || current == LAST_NUMBER {
+        return None;
+    }
+    match pool.resize_hint(layout, strategy) {
+        Ok(hint) => Some(PoolAllocator::management_size(hint.payload_size, &hint.config)),
+        Err(_) => None,
     }
 }
 

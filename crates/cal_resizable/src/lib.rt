@@ -6,6 +6,7 @@
 //! the memory's own.
 #![tactic(auto)]
 
+pub mod chunk_laws;
 mod closing;
 mod errors;
 mod growth;
@@ -13,10 +14,12 @@ mod lending;
 mod management;
 mod memory;
 mod memory_builder;
+pub mod memory_laws;
 pub mod name_laws;
 pub mod names;
 mod place;
 mod slots;
+pub mod together_laws;
 pub mod view;
 pub mod view_builder;
 pub mod view_laws;

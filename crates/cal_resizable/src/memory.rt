@@ -2,20 +2,21 @@
 ghost use Rattle.std.specs.Prelude.{◌≡◌, ◌≢◌, ◌==◌, if◌then◌else◌, ◌<◌, ◌^◌, ◌+◌, ◌-◌, ◌++◌, ◌⊎◌, ◌≤◌, ◌∷◌, ℕ, Some, None, IsSome, IsSomeAnd, IfSome, IfOk, IfErr, OnOk, OnErr, slice_range};
 ghost use Rattle.std.specs.Result.{result_err};
 ghost use Rattle.cal_alloc.specs.PointerOffset.{pointer_offset, offset_of, segment_of};
-ghost use Rattle.cal_alloc.specs.Pool.{IsUsedBucket, FreesBucket};
+ghost use Rattle.cal_alloc.specs.Pool.{IsUsedBucket, IsInUsedBucket, FreesBucket, pool_properties};
 ghost use Rattle.cal_storage.specs.Contents.{Has};
 ghost use Rattle.cal_storage.specs.declared.handle.Handle.{Handle};
 ghost use Rattle.cal_shm.specs.Calls.{IsInPayload, IsChunkWithin};
-ghost use Rattle.cal_resizable.specs.Closing.{held_handles, after_closing};
+ghost use Rattle.cal_resizable.specs.Chunks.{AddsChunk, RemovesChunk};
+ghost use Rattle.cal_resizable.specs.Closing.{held_handles, AreElsewhere, after_closing, LeavesAllSharers};
 ghost use Rattle.cal_resizable.specs.Creation.{first_memory};
-ghost use Rattle.cal_resizable.specs.Growth.{OfSegment, AllocatesHere, Allocates, TakesBack, growth_plan, allocation_refusal, segment_plan, segment_refusal, made_segment, grown_contents, grown_memory};
+ghost use Rattle.cal_resizable.specs.Growth.{OfSegment, AllocatesHere, Allocates, TakesBack, growth_plan, allocation_refusal, segment_plan, segment_refusal, made_segment, grown_contents, grown_memory, next_number_of_buckets};
 ghost use Rattle.cal_resizable.specs.Memory.{IsSoundMemory, HasAll, KeepsOwn};
 ghost use Rattle.cal_resizable.specs.SegmentNames.{number_end};
 ghost use Rattle.cal_resizable.specs.Slots.{segment_at, count_at, number_held, with_less, without_unused, after_retiring, AreApart, IsSpared, LeavesHandle, SparesHandles};
 
 use crate::closing::close_all;
 use crate::errors::ResizableShmAllocationError;
-use crate::growth::{make_segment, plan_growth};
+use crate::growth::{make_segment, next_number_of_buckets, plan_growth};
 use crate::lending::SegmentsHolder;
 use crate::names::segment_name;
 use crate::slots::{NUMBER_OF_SLOTS, SegmentSlots};
@@ -107,10 +108,14 @@ impl<A: ShmAllocator, Shm: SharedMemory<A>> DynamicMemory<A, Shm> {
     }
 
     /// Closes the management segment and then each active segment, in the order of their numbers, as their owner: the
-    /// names go, and a segment is dropped where no view holds it.
+    /// names go, and a segment is dropped where no view holds it. Every handle on another entry is left, and of the
+    /// holders of a segment one is lost.
     pub fn close(self, reg: &mut Registry<AllocatorDetails<A>>)
         requires has { HasAll reg.old self }
         ensures closed { reg.new ≡ after_closing reg.old (self.management ∷ held_handles self.slots) }
+        ensures leaves { (handle : Handle) → AreElsewhere handle (self.management ∷ held_handles self.slots) →
+            LeavesHandle reg.old reg.new handle }
+        ensures sharers { LeavesAllSharers reg.old reg.new }
     {
         let DynamicMemory {
             name: _,
@@ -185,6 +190,7 @@ impl<A: ShmAllocator, Shm: SharedMemory<A>> DynamicMemory<A, Shm> {
             (count_at self.new.slots self.new.current ≤ count_at self.old.slots self.old.current + 1) }
         ensures own { KeepsOwn reg.old self.old reg.new self.new }
         ensures leaves { (handle : Handle) → LeavesHandle reg.old reg.new handle }
+        ensures sound { IsSoundMemory self.old }
         ensures unchanged { OnErr result (reg.new ≡ reg.old) }
         ensures same { OnErr result (self.new ≡ self.old) }
     {
@@ -270,7 +276,9 @@ impl<A: ShmAllocator, Shm: SharedMemory<A>> DynamicMemory<A, Shm> {
 
     /// Hands out a chunk of that layout: of the current segment, or where that can't serve it and growth may help, of
     /// the next one, which is made then. The offset carries the number of the segment, and the chunk lies within that
-    /// segment's payload. After an error the memory and the registry are as before. Memory is taken by growth alone.
+    /// segment's payload. It overlaps no chunk that is out, and each chunk that is out is out still. After an error the
+    /// memory and the registry are as before. Memory is taken by growth alone, and only where the current segment can't
+    /// serve the layout.
     pub fn allocate(
         &mut self,
         alloc: Global,
@@ -293,6 +301,10 @@ impl<A: ShmAllocator, Shm: SharedMemory<A>> DynamicMemory<A, Shm> {
             (λ segment. IsChunkWithin A.properties segment layout pointer.offset)) }
         ensures counted { OnOk result
             (count_at self.new.slots self.new.current ≤ count_at self.old.slots self.old.current + 1) }
+        ensures stays_out { IfOk result (λ pointer.
+            AddsChunk A.properties A.IsByteUsed A.IsAllocated reg.old self.old.slots layout pointer.offset reg.new self.new.slots) }
+        ensures serves { OnErr result (OfSegment reg.old self.old.slots self.old.current
+            (λ segment. IsSome (A.refusal segment.allocator layout))) }
         ensures own { OnOk result (KeepsOwn reg.old self.old reg.new self.new) }
         ensures spares { OnOk result (SparesHandles reg.old reg.new self.old.slots self.new.slots) }
         ensures unchanged { OnErr result (reg.new ≡ reg.old) }
@@ -315,8 +327,8 @@ impl<A: ShmAllocator, Shm: SharedMemory<A>> DynamicMemory<A, Shm> {
         }
     }
 
-    /// Takes back the chunk at that offset, which was handed out and not taken back yet. A segment that isn't the
-    /// current one goes with its last chunk.
+    /// Takes back the chunk at that offset, which was handed out and not taken back yet. Each other chunk that is out is
+    /// out still. A segment that isn't the current one goes with its last chunk.
     pub fn deallocate(
         &mut self,
         reg: &mut Registry<AllocatorDetails<A>>,
@@ -329,6 +341,7 @@ impl<A: ShmAllocator, Shm: SharedMemory<A>> DynamicMemory<A, Shm> {
             (λ segment. A.IsAllocated segment.allocator (pointer_offset (offset_of offset) 0)) }
         ensures freed { TakesBack (λ was is. A.Deallocates was (pointer_offset (offset_of offset) 0) is)
             reg.old self.old (segment_of offset) reg.new self.new }
+        ensures stays_out { RemovesChunk A.properties A.IsByteUsed A.IsAllocated reg.old self.old.slots offset reg.new self.new.slots }
         ensures own { KeepsOwn reg.old self.old reg.new self.new }
         ensures spares { SparesHandles reg.old reg.new self.old.slots self.new.slots }
     {
@@ -359,8 +372,8 @@ impl<A: ShmAllocator, Shm: SharedMemory<A>> SegmentsHolder<AllocatorDetails<A>>
 }
 
 impl<Shm: SharedMemoryForPoolAllocator> DynamicMemory<PoolAllocator, Shm> {
-    /// Takes back the bucket at that offset, which was handed out and not taken back yet. A segment that isn't the
-    /// current one goes with its last bucket.
+    /// Takes back the bucket at that offset, which was handed out and not taken back yet. Each other bucket that is out
+    /// is out still. A segment that isn't the current one goes with its last bucket.
     pub fn deallocate_bucket(
         &mut self,
         reg: &mut Registry<AllocatorDetails<PoolAllocator>>,
@@ -372,6 +385,8 @@ impl<Shm: SharedMemoryForPoolAllocator> DynamicMemory<PoolAllocator, Shm> {
             (λ segment. IsUsedBucket segment.allocator (pointer_offset (offset_of offset) 0)) }
         ensures freed { TakesBack (λ was is. FreesBucket was (pointer_offset (offset_of offset) 0) is)
             reg.old self.old (segment_of offset) reg.new self.new }
+        ensures stays_out { RemovesChunk pool_properties IsInUsedBucket IsUsedBucket reg.old self.old.slots offset
+            reg.new self.new.slots }
         ensures own { KeepsOwn reg.old self.old reg.new self.new }
         ensures spares { SparesHandles reg.old reg.new self.old.slots self.new.slots }
     {
@@ -395,6 +410,38 @@ impl<Shm: SharedMemoryForPoolAllocator> DynamicMemory<PoolAllocator, Shm> {
             (λ segment. result ≡ segment.allocator.buckets.size) }
     {
         self.slots.segment(segment_id.value()).bucket_size(reg)
+    }
+
+    /// The number of buckets of a segment.
+    pub fn number_of_buckets(
+        &self,
+        reg: &Registry<AllocatorDetails<PoolAllocator>>,
+        segment_id: SegmentId,
+    ) -> u32
+        requires has { HasAll reg.now self.now }
+        requires active { IsSome (segment_at self.now.slots segment_id) }
+        ensures number { OfSegment reg.now self.now.slots segment_id
+            (λ segment. result ≡ segment.allocator.buckets.count) }
+    {
+        self.slots
+            .segment(segment_id.value())
+            .allocator(reg)
+            .number_of_buckets()
+    }
+
+    /// The number of buckets of the segment that an allocation of this layout would make; none where the current segment
+    /// serves the layout, or where the memory doesn't grow for it.
+    pub fn next_number_of_buckets(
+        &self,
+        reg: &Registry<AllocatorDetails<PoolAllocator>>,
+        layout: Layout,
+    ) -> Option<usize>
+        requires has { HasAll reg.now self.now }
+        ensures number { OfSegment reg.now self.now.slots self.now.current (λ segment. result
+            ≡ next_number_of_buckets self.now.strategy self.now.current layout segment.allocator) }
+    {
+        let pool = self.slots.segment(self.current).allocator(reg);
+        next_number_of_buckets(pool, self.strategy, self.current, layout)
     }
 }
 

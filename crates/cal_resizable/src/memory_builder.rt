@@ -1,8 +1,9 @@
 //! The builder of growing memory. Ported from `resizable_shared_memory/dynamic.rs` of iceoryx2-cal 0.9.3.
-ghost use Rattle.std.specs.Prelude.{◌≡◌, ◌⊎◌, ◌++◌, Some, None, IfOk, IfErr, OnOk, OnErr, codes};
+ghost use Rattle.std.specs.Prelude.{◌≡◌, ◌⊎◌, ◌++◌, Some, None, IfOk, IfErr, OnOk, OnErr, [], codes};
 ghost use Rattle.cal_names.specs.FileName.{IsFileName};
 ghost use Rattle.cal_storage.specs.ContentsLaws.{KeepsEntries};
 ghost use Rattle.cal_storage.specs.Holding.{KeepsHandles};
+ghost use Rattle.cal_resizable.specs.Chunks.{AreOut};
 ghost use Rattle.cal_resizable.specs.Creation.{new_plan, one_byte, creation_refusal, segments_refusal, CreatesMemory, MakesMemory};
 ghost use Rattle.cal_resizable.specs.Memory.{HasAll, HoldsAll, NamesAll};
 ghost use Rattle.cal_resizable.specs.Slots.{count_at, empty_slots};
@@ -121,6 +122,7 @@ impl<A: ShmAllocator, Shm: SharedMemory<A>> DynamicMemoryBuilder<A, Shm> {
             ⊎ (error ≡ SharedMemoryCreateError.NoMemory)) }
         ensures created { IfOk result (CreatesMemory A.ShmAllocator.own reg.old self reg.new) }
         ensures empty { IfOk result (λ memory. count_at memory.slots memory.current ≡ 0) }
+        ensures none_out { IfOk result (λ memory. AreOut A.properties A.IsByteUsed A.IsAllocated reg.new memory.slots []) }
         ensures has { IfOk result (HasAll reg.new) }
         ensures holds { IfOk result (HoldsAll reg.new) }
         ensures names { IfOk result (NamesAll reg.new) }

@@ -3,3 +3,4 @@
 mod creation;
 mod fixtures;
 mod growth;
+mod segments;

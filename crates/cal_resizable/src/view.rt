@@ -13,7 +13,7 @@ ghost use Rattle.cal_storage.specs.Refusals.{is_too_long};
 ghost use Rattle.cal_storage.specs.Soundness.{IsSound};
 ghost use Rattle.cal_names.specs.ConceptSettings.{file_path_for};
 ghost use Rattle.cal_names.specs.FileName.{IsFileName};
-ghost use Rattle.cal_resizable.specs.Closing.{held_handles, after_closing};
+ghost use Rattle.cal_resizable.specs.Closing.{held_handles, AreElsewhere, after_closing, LeavesAllSharers};
 ghost use Rattle.cal_resizable.specs.Slots.{empty_slots, Handle, HeldSegment, AreApart, IsSpared, LeavesHandle, SparesHandles, segment_at, number_held};
 ghost use Rattle.cal_resizable.specs.View.{View, IsView, HasView, management_name, new_view, segment_plan, segment_path, mapping, after_mapping, registering, SparesOthers, without_unused_of, after_retiring_of, leaving_of, unregistering, view_after_arrival, registry_after_arrival, registry_after_return, arrival_refusal};
 
@@ -96,10 +96,14 @@ impl<A: ShmAllocator, Shm: SharedMemory<A>> DynamicView<A, Shm> {
         }
     }
 
-    /// Closes the management segment, and then each mapped segment in the order of their numbers.
+    /// Closes the management segment, and then each mapped segment in the order of their numbers. Every handle on another
+    /// entry is left, and of the holders of a segment one is lost.
     pub fn close(self, reg: &mut Registry<AllocatorDetails<A>>)
         requires there { HasView reg.old self }
         ensures closed { reg.new ≡ after_closing reg.old (self.management ∷ held_handles self.slots) }
+        ensures leaves { (handle : Handle) → AreElsewhere handle (self.management ∷ held_handles self.slots) →
+            LeavesHandle reg.old reg.new handle }
+        ensures sharers { LeavesAllSharers reg.old reg.new }
     {
         let DynamicView {
             name: _,

@@ -1,6 +1,6 @@
 //! The builder of views. Ported from `resizable_shared_memory/dynamic.rs` of iceoryx2-cal 0.9.3.
-ghost use Rattle.std.specs.Prelude.{◌≡◌, ◌⊎◌, ℕ, Some, None, IfSome, IfOk, IfErr, OnOk};
-ghost use Rattle.cal_storage.specs.Contents.{id_at, found_handle, after_opening, after_close};
+ghost use Rattle.std.specs.Prelude.{◌≡◌, ◌⊎◌, Some, None, IfOk, IfErr, OnOk, OnErr};
+ghost use Rattle.cal_storage.specs.Contents.{id_at, after_opening};
 ghost use Rattle.cal_storage.specs.Holding.{KeepsHandles, JoinsHandles};
 ghost use Rattle.cal_shm.specs.Plan.{path_of};
 ghost use Rattle.cal_resizable.specs.View.{ViewPlan, HasView, management_plan, new_view, opening_refusal};
@@ -63,17 +63,16 @@ impl<A: ShmAllocator, Shm: SharedMemory<A>> DynamicViewBuilder<A, Shm> {
         self
     }
 
-    /// Opens the management segment of the memory, and takes the room for as many segments as there can be; none is
-    /// mapped yet. A refusal leaves the registry as it was. Where the room isn't there (`NoMemory`), what was opened is
-    /// closed again.
+    /// Takes the room for as many segments as there can be, and then opens the management segment of the memory; none is
+    /// mapped yet. `PathTooLong` comes first, where the name of the management segment is no file name; then `NoMemory`,
+    /// where the room isn't there; then what refuses the opening. After an error the registry is as it was.
     pub fn open(
         self,
         alloc: Global,
         reg: &mut Registry<AllocatorDetails<A>>,
         access_mode: AccessMode,
     ) -> Result<DynamicView<A, Shm>, SharedMemoryOpenError>
-        ensures refused { IfSome (opening_refusal Shm.checks_version reg.old self)
-            (λ error. (result ≡ Err error) × (reg.new ≡ reg.old)) }
+        ensures served { OnOk result (opening_refusal Shm.checks_version reg.old self ≡ None) }
         ensures error { IfErr result (λ error. (opening_refusal Shm.checks_version reg.old self ≡ Some error)
             ⊎ (error ≡ SharedMemoryOpenError.NoMemory)) }
         ensures found { IfOk result (λ view. id_at reg.old (path_of (management_plan self)) ≡ Some view.management.id) }
@@ -81,31 +80,26 @@ impl<A: ShmAllocator, Shm: SharedMemory<A>> DynamicViewBuilder<A, Shm> {
         ensures opened { IfOk result (λ view. reg.new ≡ after_opening reg.old view.management.id) }
         ensures has { IfOk result (HasView reg.new) }
         ensures joins { IfOk result (λ view. JoinsHandles reg.old reg.new view.management) }
-        ensures keeps { OnOk result (KeepsHandles reg.old reg.new) }
-        ensures closed_again { IfErr result (λ error. (reg.new ≡ reg.old) ⊎ ((id : ℕ) →
-            id_at reg.old (path_of (management_plan self)) ≡ Some id →
-            reg.new ≡ after_close (after_opening reg.old id) (found_handle (path_of (management_plan self)) id))) }
+        ensures keeps { KeepsHandles reg.old reg.new }
+        ensures unchanged { OnErr result (reg.new ≡ reg.old) }
     {
         let Some(name) = management_segment_name(&self.name) else {
             return Err(SharedMemoryOpenError::PathTooLong);
         };
-        let builder = Shm::Builder::new(&name).config(&self.config);
-        let management = match builder.open(reg, access_mode) {
-            Ok(management) => management,
-            Err(error) => return Err(error),
+        let segments = match SegmentSlots::new(alloc) {
+            Ok(segments) => segments,
+            Err(_) => return Err(SharedMemoryOpenError::NoMemory),
         };
-        match SegmentSlots::new(alloc) {
-            Ok(segments) => Ok(DynamicView::new(
+        let builder = Shm::Builder::new(&name).config(&self.config);
+        match builder.open(reg, access_mode) {
+            Ok(management) => Ok(DynamicView::new(
                 self.name,
                 self.config,
                 access_mode,
                 management,
                 segments,
             )),
-            Err(_) => {
-                management.close(reg);
-                Err(SharedMemoryOpenError::NoMemory)
-            }
+            Err(error) => Err(error),
         }
     }
 }

@@ -1,9 +1,11 @@
 use Rattle.std.proofs.Common.{◌≡◌, ◌<◌, ℕ, sym, subst, ◌∙◌}
 use Rattle.cal_alloc.specs.PointerOffset.{segment_of}
-use Rattle.cal_alloc.specs.Pool.{FreesBucket}
-use Rattle.cal_resizable.specs.Memory.{MemoryState, HasAll}
+use Rattle.cal_alloc.specs.Pool.{IsUsedBucket, IsInUsedBucket, FreesBucket, pool_properties}
+use Rattle.cal_resizable.specs.Memory.{MemoryState, IsSoundMemory, HasAll}
 use Rattle.cal_resizable.specs.Slots.{count_at}
 use Rattle.cal_resizable.proofs.KeepingLemmas.{EachHandle-leaves, LeavesHandle-ChangesAllocator, has_segment, IsSoundMemory-returned, TakesBack-by, KeepsOwn-returned, SparesHandles-returned}
+use Rattle.cal_alloc.specs.PoolLaws.{FreesBucket-IsDeallocation}
+use Rattle.cal_resizable.proofs.StayingLemmas.{RemovesChunk-taken}
 use Rattle.cal_resizable.proofs.memory.DynamicMemory+PoolAllocator+Shm.deallocate_bucket.Goals as goal
 
 pub take_back-requires-clause-has : goal.take_back-requires-clause-has
@@ -69,3 +71,9 @@ returns-clause-spares g c =
     c.requires.chunks))
     c.take_back.ensures.slots (g.Shm.PayloadHolder.handle c.segment.result.now) c.segment.ensures.handle
     c.deallocate_bucket.ensures.freed c.take_back.ensures.spares)
+
+pub returns-clause-stays_out : goal.returns-clause-stays_out
+returns-clause-stays_out g c =
+    RemovesChunk-taken pool_properties IsInUsedBucket IsUsedBucket FreesBucket FreesBucket-IsDeallocation
+    c.args.reg.now c.take_back.new.reg c.args.self.now _ c.args.offset
+    (subst IsSoundMemory c.self.view_is c.self.invariant) c.requires.has c.requires.chunks (returns-clause-freed g c)

@@ -1,13 +1,15 @@
-use Rattle.std.proofs.Common.{◌≡◌, ◌+◌, ◌++◌, Result, Ok, Err, IfSome, ap, subst}
+use Rattle.std.proofs.Common.{◌≡◌, ◌+◌, ◌++◌, Result, Ok, Err, IfSome, sym, ap, subst}
 use Rattle.cal_shm.specs.declared.errors.SharedMemoryCreateError.{SharedMemoryCreateError}
 use Rattle.cal_resizable.specs.Growth.{OfSegment, growth_plan, segment_plan, segment_refusal}
-use Rattle.cal_resizable.specs.Memory.{MemoryState}
 use Rattle.cal_resizable.specs.SegmentNames.{number_end}
 use Rattle.cal_resizable.specs.Slots.{SparesHandles}
 use Rattle.cal_resizable.specs.declared.errors.ResizableShmAllocationError.TheVariants as error
 use Rattle.cal_resizable.proofs.AllocationLemmas.{refused_by_plan, refused_by_hint}
 use Rattle.cal_resizable.proofs.KeepingLemmas.{still_held}
 use Rattle.cal_resizable.proofs.LeavingLemmas.{SparesHandles-leaves, SparesHandles-then}
+use Rattle.cal_resizable.specs.Chunks.{AddsChunk}
+use Rattle.cal_resizable.specs.Memory.{MemoryState, IsSoundMemory}
+use Rattle.cal_resizable.proofs.StayingLemmas.{AddsChunk-here, AddsChunk-grown, not_served}
 use Rattle.cal_resizable.proofs.memory.DynamicMemory.allocate.Goals as goal
 
 pub returns-in-Ok-clause-spares : goal.returns-in-Ok-clause-spares
@@ -71,3 +73,34 @@ returns-clause-spares g c =
     c.in-Ok-allocate_here.ensures.leaves
     (still_held g.A.ShmAllocator c.grow_by.new.reg c.allocate_here-2.new.reg c.grow_by.new.self
     c.allocate_here-2.new.self c.args.layout c.in-Ok-allocate_here.pointer.offset c.in-Ok-allocate_here.ensures.given)
+
+pub returns-in-Ok-clause-stays_out : goal.returns-in-Ok-clause-stays_out
+returns-in-Ok-clause-stays_out g c =
+    AddsChunk-here g.A.ShmAllocator g.met.A.ShmAllocator.allocation g.met.A.ShmAllocator.served c.args.layout
+    c.in-Ok.pointer.offset c.args.reg.now c.allocate_here.new.reg c.args.self.now c.allocate_here.new.self
+    c.allocate_here.ensures.sound c.requires.has c.in-Ok.ensures.given c.in-Ok.ensures.within c.in-Ok.ensures.refused
+
+pub returns-in-Err-plan-clause-serves : goal.returns-in-Err-plan-clause-serves
+returns-in-Err-plan-clause-serves g c =
+    not_served g.A.ShmAllocator c.args.reg.now c.args.self.now c.args.layout c.in-Err.refusal c.in-Err.ensures.refused
+
+pub returns-in-Err-grow_by-clause-serves : goal.returns-in-Err-grow_by-clause-serves
+returns-in-Err-grow_by-clause-serves g c =
+    not_served g.A.ShmAllocator c.args.reg.now c.args.self.now c.args.layout c.in-Err.refusal c.in-Err.ensures.refused
+
+pub returns-clause-stays_out : goal.returns-clause-stays_out
+returns-clause-stays_out g c =
+    let R = g.A.ShmAllocator in
+    let new = c.allocate_here-2.new.reg in
+    let after = c.allocate_here-2.new.self in
+    let pointer = c.in-Ok-allocate_here.pointer.offset in
+    subst (λ (m : MemoryState). AddsChunk R.properties R.IsByteUsed R.IsAllocated c.args.reg.now m.slots c.args.layout pointer new after.slots)
+    c.in-Err.ensures.same
+    (subst (λ reg. AddsChunk R.properties R.IsByteUsed R.IsAllocated reg c.allocate_here.new.self.slots c.args.layout pointer new after.slots)
+    c.in-Err.ensures.unchanged
+    (AddsChunk-grown R g.met.A.ShmAllocator.allocation g.met.A.ShmAllocator.served c.args.layout pointer c.allocate_here.new.reg c.grow_by.new.reg
+    new c.allocate_here.new.self c.grow_by.new.self after c.in-Ok-plan.hint
+    (subst IsSoundMemory (sym c.in-Err.ensures.same) c.allocate_here.ensures.sound)
+    (let own = c.allocate_here.ensures.own in own.has) c.in-Ok-plan.ensures.below c.in_default.ensures.contents
+    c.in_default.ensures.memory c.allocate_here-2.ensures.sound (let own = c.grow_by.ensures.own in own.has)
+    c.in-Ok-allocate_here.ensures.given c.in-Ok-allocate_here.ensures.within c.in-Ok-allocate_here.ensures.refused))

@@ -1,9 +1,12 @@
-use Rattle.std.proofs.Common.{sym, ap, subst, ◌∙◌}
+use Rattle.std.proofs.Common.{[], sym, ap, subst, ◌∙◌}
 use Rattle.cal_names.specs.FileName.{IsFileName}
-use Rattle.cal_resizable.specs.Creation.{MemoryPlan}
 use Rattle.cal_resizable.specs.View.{management_name}
 use Rattle.cal_resizable.proofs.CreationLemmas.{CreatesMemory-by}
 use Rattle.cal_resizable.proofs.ViewOpenLemmas.{managed_is}
+use Rattle.cal_resizable.specs.Chunks.{AreOut}
+use Rattle.cal_resizable.specs.Creation.{MemoryPlan, MakesMemory, management_handle, first_handle, managed_contents}
+use Rattle.cal_resizable.proofs.StayingLemmas.{ok_map}
+use Rattle.cal_resizable.proofs.WritingLemmas.{none_out}
 use Rattle.cal_resizable.proofs.memory_builder.DynamicMemoryBuilder.create.Goals as goal
 
 pub make-requires-clause-rule : goal.make-requires-clause-rule
@@ -20,3 +23,14 @@ returns-in-Ok-new-clause-created g c =
     (ap (λ l. R.initial_setup_hint l 1) (sym c.layout_of_one_byte.ensures)
     ∙ sym c.in-Ok-initial_setup_hint.ensures.value)
     c.make.result c.make.ensures.makes
+
+pub returns-in-Ok-new-clause-none_out : goal.returns-in-Ok-new-clause-none_out
+returns-in-Ok-new-clause-none_out g c =
+    let R = g.A.ShmAllocator in
+    let old = c.args.reg.now in
+    let management = c.in-Ok-initial_setup_hint.hint in
+    let first = c.in-Ok.hint in
+    ok_map c.make.result (MakesMemory R old c.args.self management first c.make.new.reg)
+    (λ memory. AreOut R.properties R.IsByteUsed R.IsAllocated c.make.new.reg memory.slots []) c.make.ensures.makes
+    (λ memory makes. none_out R c.make.new.reg c.args.self (management_handle old c.args.self)
+    (first_handle (managed_contents R old c.args.self management) c.args.self) memory makes.is)

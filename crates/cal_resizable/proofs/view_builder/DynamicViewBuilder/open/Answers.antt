@@ -3,15 +3,15 @@ use Rattle.cal_resizable.proofs.ViewOpenLemmas.{managed_is, new-HasView}
 use Rattle.cal_storage.specs.Holding.{JoinsHandles}
 use Rattle.cal_resizable.proofs.view_builder.DynamicViewBuilder.open.Goals as goal
 
-pub new-requires-in-Ok-new-clause-managed : goal.new-requires-in-Ok-new-clause-managed
-new-requires-in-Ok-new-clause-managed g c =
+pub new-requires-in-Ok-open-clause-managed : goal.new-requires-in-Ok-open-clause-managed
+new-requires-in-Ok-open-clause-managed g c =
     (managed_is c.self.inside.name c.in-Some.name (sym c.in-Some.ensures.name)).0
 
-pub returns-in-Ok-new-clause-has : goal.returns-in-Ok-new-clause-has
-returns-in-Ok-new-clause-has g c =
-    new-HasView c.open.new.reg c.new-in-Ok-new.result _ _ (g.Shm.PayloadHolder.handle c.in-Ok.management)
-    c.new-in-Ok-new.ensures.view c.new-in-Ok-new.ensures.handle c.in-Ok.ensures.holds.0
+pub returns-in-Ok-open-clause-has : goal.returns-in-Ok-open-clause-has
+returns-in-Ok-open-clause-has g c =
+    new-HasView c.open.new.reg c.new-in-Ok-open.result _ _ (g.Shm.PayloadHolder.handle c.in-Ok-open.management)
+    c.new-in-Ok-open.ensures.view c.new-in-Ok-open.ensures.handle c.in-Ok-open.ensures.holds.0
 
-pub returns-in-Ok-new-clause-joins : goal.returns-in-Ok-new-clause-joins
-returns-in-Ok-new-clause-joins g c =
-    subst (JoinsHandles c.args.reg.now c.open.new.reg) (sym c.new-in-Ok-new.ensures.handle) c.in-Ok.ensures.joins
+pub returns-in-Ok-open-clause-joins : goal.returns-in-Ok-open-clause-joins
+returns-in-Ok-open-clause-joins g c =
+    subst (JoinsHandles c.args.reg.now c.open.new.reg) (sym c.new-in-Ok-open.ensures.handle) c.in-Ok-open.ensures.joins
