@@ -445,17 +445,6 @@ impl<Shm: SharedMemoryForPoolAllocator> DynamicMemory<PoolAllocator, Shm> {
     }
 }
 
-impl<Shm: SharedMemoryForPoolAllocator> DynamicMemory<PoolAllocator, Shm> {
-    pub fn number_of_buckets(&self, reg: &Registry<AllocatorDetails<PoolAllocator>>, segment_id: SegmentId) -> u32 {
-        self.slots.segment(segment_id.value()).allocator(reg).number_of_buckets()
-    }
-    pub fn next_number_of_buckets(&self, reg: &Registry<AllocatorDetails<PoolAllocator>>, layout: Layout) -> Option<u32> {
-        let allocator = self.slots.segment(self.current).allocator(reg);
-        let refusal = if allocator.max_alignment() < layout.align() { ShmAllocationError::ExceedsMaxSupportedAlignment } else if allocator.bucket_size() < layout.size() { ShmAllocationError::SizeTooLarge } else if allocator.number_of_used_buckets() == allocator.number_of_buckets() { ShmAllocationError::OutOfMemory } else { return None };
-        match self.plan(reg, layout, refusal) { Ok(hint) => { let size = hint.config.bucket_layout.size(); Some((hint.payload_size / size) as u32) } Err(_) => None }
-    }
-}
-
 /// The same offset, as the allocator of its segment knows it: in segment 0.
 fn within_segment(offset: PointerOffset) -> PointerOffset
     ensures { result ≡ pointer_offset (offset_of offset) 0 }
