@@ -59,4 +59,5 @@ pub mod WriteStep
 pub mod ReadStep
 pub mod GrowthStep
 pub mod LendStep
+pub mod Arrivals
 mod Serving

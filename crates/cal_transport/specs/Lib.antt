@@ -26,3 +26,6 @@ pub mod ChunkEntry
 pub mod Core
 pub mod Shown
 pub mod Viewing
+pub mod State
+pub mod Sharing
+pub mod CommandsDo

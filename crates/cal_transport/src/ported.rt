@@ -2,3 +2,5 @@
 //! proved.
 
 mod chunk_entry;
+mod parts;
+mod sharing;
