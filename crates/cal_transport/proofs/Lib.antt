@@ -60,4 +60,7 @@ pub mod ReadStep
 pub mod GrowthStep
 pub mod LendStep
 pub mod Arrivals
+pub mod Owners
+pub mod PortCalls
+pub mod Segments
 mod Serving

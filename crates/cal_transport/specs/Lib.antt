@@ -27,5 +27,7 @@ pub mod Core
 pub mod Shown
 pub mod Viewing
 pub mod State
+pub mod StateOf
 pub mod Sharing
+pub mod Pointed
 pub mod CommandsDo

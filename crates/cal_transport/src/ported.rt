@@ -3,4 +3,7 @@
 
 mod chunk_entry;
 mod parts;
+mod pointing;
+mod receiver;
 mod sharing;
+pub mod transport;
