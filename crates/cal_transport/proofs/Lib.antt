@@ -63,4 +63,6 @@ pub mod Arrivals
 pub mod Owners
 pub mod PortCalls
 pub mod Segments
+pub mod Represented
+pub mod ReceiveCode
 mod Serving
