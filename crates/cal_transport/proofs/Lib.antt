@@ -65,4 +65,6 @@ pub mod PortCalls
 pub mod Segments
 pub mod Represented
 pub mod ReceiveCode
+pub mod Seen
+pub mod ReceivedCode
 mod Serving

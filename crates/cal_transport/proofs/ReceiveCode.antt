@@ -1,9 +1,10 @@
 -- The receive of a transport, from what its calls on the ports, the memory and the view say.
-use Rattle.std.proofs.Common.{ℕ, ◌+◌, ◌*◌, ◌/◌, ◌^◌, ◌<◌, ◌≤◌, ◌≡◌, ◌≢◌, Bool, true, false, cond, nat_le, List, [], ◌∷◌, length, map, set, get_or, drop, Option, Some, None, Result, Ok, Err, option_map, refl, sym, ap, ◌∙◌, subst, arith}
+use Rattle.std.proofs.Common.{ℕ, ◌+◌, ◌-◌, ◌*◌, ◌/◌, ◌^◌, ◌<◌, ◌≤◌, ◌≡◌, ◌≢◌, Bool, true, false, cond, nat_le, List, [], ◌∷◌, length, set, get_or, drop, Option, Some, None, IsSome, Result, Ok, Err, option_map, refl, sym, ap, ◌∙◌, subst, arith}
 use Rattle.std.specs.List.{slice_get}
 use Rattle.std.proofs.lemmas.Bool.{true≢false, leb-true, leb-false}
 use Rattle.std.proofs.lemmas.List.{get_or-set_same, get_or-set_other, length-set, set-get_or}
 use Rattle.std.proofs.lemmas.Option.{same_Some, none-some}
+use Rattle.cal_alloc.specs.Growth.{SegmentLayout}
 use Rattle.cal_alloc.specs.Pool.{Pool}
 use Rattle.cal_alloc.specs.PointerOffset.{offset_of, segment_of}
 use Rattle.cal_queue.specs.Queue.{after_pop, oldest}
@@ -16,27 +17,33 @@ use Rattle.cal_connection.specs.Channel.{ChannelEntry, shape, receive_answer, af
 use Rattle.cal_connection.specs.Port.{PortEntry, ReceiverEnd, channel_of, with_channel_of, settings_at, count_at, with_count}
 use Rattle.cal_connection.specs.RegistryLemmas.{with_channel_of-present}
 use Rattle.cal_resizable.specs.Chunks.{segment_value}
+use Rattle.cal_resizable.specs.Memory.{MemoryState}
 use Rattle.cal_resizable.specs.Slots.{HeldSegment, segment_at, count_at as slots_count}
 use Rattle.cal_resizable.specs.View.{View}
 use Rattle.cal_transport.specs.declared.command.Command.TheVariants as command
-use Rattle.cal_transport.specs.declared.reply.Slot.{Slot}
+use Rattle.cal_transport.specs.declared.settings.Settings.{Settings}
 use Rattle.cal_transport.specs.declared.reply.Reply.{Reply}
 use Rattle.cal_transport.specs.declared.reply.Reply.TheVariants.{Received, Refused}
 use Rattle.cal_transport.specs.declared.reply.Refusal.{Refusal}
 use Rattle.cal_transport.specs.declared.reply.Refusal.TheVariants as refusal
 use Rattle.cal_transport.specs.declared.ported.chunk_entry.ChunkEntry.{ChunkEntry}
-use Rattle.cal_transport.specs.Ledger.{Ledger, is_live, queued_names}
+use Rattle.cal_transport.specs.Ledger.{Ledger, Chunk, layout_at, is_live, is_borrowed, queued_names}
 use Rattle.cal_transport.specs.Step.{after_step_by}
-use Rattle.cal_transport.specs.Core.{Core}
+use Rattle.cal_transport.specs.Core.{ActiveSegment}
 use Rattle.cal_transport.specs.Pointed.{PointsTo}
-use Rattle.cal_transport.specs.Shown.{Shows, Tracks, entry_of}
+use Rattle.cal_transport.specs.Shown.{is_active, Shows, Tracks, ShowsMapped, pointer_to, entry_of}
+use Rattle.cal_transport.specs.Viewing.{opened_after_arrival, mapped_after_arrival}
 use Rattle.cal_transport.specs.Sharing.{Arrives}
 use Rattle.cal_transport.specs.State.{TransportState, core_of, active_of, active_at, mapped_at, LinksPorts, IsLinked, Represents, DoesAnywhere}
 use Rattle.cal_transport.proofs.Settled.{IsSettled, settled}
 use Rattle.cal_transport.proofs.PortCalls.{channel_is, with_is, borrow_limit, channel_here, channel_else, links_after, count_here, count_else, counts_long}
-use Rattle.cal_transport.proofs.Represented.{IsPlaceless, stands, state_same}
-use Rattle.cal_transport.proofs.Stands.{has_history, SameCore}
-use Rattle.cal_transport.proofs.Fronts.{IsFront}
+use Rattle.cal_transport.proofs.Represented.{IsPlaceless, stands, state_same, room_to_borrow}
+use Rattle.cal_transport.proofs.Names.{is_borrowed_queued}
+use Rattle.cal_transport.proofs.Changed.{transit_lives}
+use Rattle.cal_transport.proofs.Marks.{mark_below}
+use Rattle.cal_transport.proofs.Segments.{shown_held}
+use Rattle.cal_transport.proofs.Stands.{has_history, Steps, SameCore}
+use Rattle.cal_transport.proofs.Fronts.{IsFront, is_pointer, pointed_bucket, has_segment, entry_at, alive_active}
 use Rattle.cal_transport.proofs.ReceiveStep.{Receives, receive_outside, receive_at_limit, receives_none, receives_some, queue_front}
 
 -- ---- what the receiver's call says
@@ -52,7 +59,7 @@ pub record ReceiveCall (t : TransportState) (k : ℕ) (answer : Result (Option �
   pub receiver_is : receiver ≡ with_count t.receiver k (count_after_receive answer (count_at t.receiver k))
 
 -- below the limit the oldest is the answer
-answer_below : (limit count : ℕ) (ch : ChannelEntry) (o : Option ℕ) → Ok o ≡ receive_answer limit count ch →
+pub answer_below : (limit count : ℕ) (ch : ChannelEntry) (o : Option ℕ) → Ok o ≡ receive_answer limit count ch →
     (nat_le limit count ≡ false) × (o ≡ oldest ch.submission)
 answer_below limit count ch o is = go (nat_le limit count) refl is
   where
@@ -89,7 +96,7 @@ module _ (t : TransportState) (linked : IsLinked t) (k : ℕ) (inside : k < t.se
   ch_is = channel_is t.connection_registry t.sender.handle t.receiver.handle t.settings linked.ports k
 
   -- the registry by the sender's handle
-  registry_by : (n : ℕ) (registry : Contents PortEntry) →
+  pub registry_by : (n : ℕ) (registry : Contents PortEntry) →
       registry ≡ with_channel_of t.connection_registry t.receiver.handle k (after_receive n count
       (channel_of t.connection_registry t.receiver.handle k)) →
       registry ≡ with_channel_of t.connection_registry t.sender.handle k (after_receive n count ch)

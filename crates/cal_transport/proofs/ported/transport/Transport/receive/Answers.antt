@@ -1,4 +1,5 @@
 use Rattle.cal_transport.proofs.ReceiveCode.{ReceiveCall}
+use Rattle.cal_transport.proofs.ReceivedCode.{received_does}
 use Rattle.cal_transport.proofs.ported.transport.Transport.receive.Goals as goal
 
 pub invariant_of-self : goal.invariant_of-self
