@@ -138,6 +138,17 @@ module _ (t : TransportState) (linked : IsLinked t) (k : ℕ) (inside : k < t.se
         (has_history l (settled l r.place r.sound) k inside_l).here).room
         ∙ ap (λ (s : Settings). s.segments * s.samples) (sym r.shows.settings)
 
+    -- the entry that is found there, and its mark
+    pub found_entry : (index : ℕ) (entry : ChunkEntry) → ((p : PointsTo t.memory_registry t.memory t.entries
+        (get_or t.owners (segment_of pointer) []) pointer) → (index ≡ p.index) × (entry ≡ p.entry)) →
+        entry ≡ entry_of l.histories at_front.chunk
+    found_entry index entry found = (found front_leads.points).1 ∙ front_leads.entry
+
+    pub entry_mark : (entry : ChunkEntry) → entry ≡ entry_of l.histories at_front.chunk →
+        entry.segment * t.settings.samples + entry.bucket < t.settings.segments * t.settings.samples
+    entry_mark entry is = subst (λ (e : ChunkEntry). e.segment * t.settings.samples + e.bucket
+        < t.settings.segments * t.settings.samples) (sym is) front_mark
+
   -- ---- the transport after it
 
   module _ (memory_registry : Contents (Segment Pool)) (view : View)

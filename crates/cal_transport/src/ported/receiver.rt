@@ -19,10 +19,13 @@ impl Transport {
         let answer = self
             .receiver
             .receive(&mut self.connection_registry, ChannelId::new(channel));
-        let pointer = match answer {
-            Ok(Some(pointer)) => pointer,
-            Ok(None) => return Ok(None),
+        let taken = match answer {
+            Ok(taken) => taken,
             Err(_) => return Err(Refusal::ReceiveWouldExceedMaxBorrowValue),
+        };
+        let pointer = match taken {
+            Some(pointer) => pointer,
+            None => return Ok(None),
         };
         let found = pointed_entry(
             &self.entries,
