@@ -67,4 +67,6 @@ pub mod Represented
 pub mod ReceiveCode
 pub mod Seen
 pub mod ReceivedCode
+pub mod Lent
+pub mod ReleaseCode
 mod Serving

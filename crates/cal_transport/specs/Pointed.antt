@@ -1,7 +1,8 @@
 -- The entry to which a pointer leads.
-use Rattle.std.specs.Prelude.{◌≡◌, ℕ, ◌/◌, ◌≤◌, List, Some, slice_get}
+use Rattle.std.specs.Prelude.{◌≡◌, ℕ, ◌*◌, ◌/◌, ◌≤◌, ◌<◌, List, Some, slice_get}
 use Rattle.cal_alloc.specs.Pool.{Pool}
 use Rattle.cal_alloc.specs.PointerOffset.{offset_of, segment_of}
+use Rattle.cal_alloc.specs.Limits.{max_memory_size}
 use Rattle.cal_storage.specs.Contents.{Contents}
 use Rattle.cal_shm.specs.Segment.{Segment}
 use Rattle.cal_resizable.specs.Chunks.{segment_value}
@@ -18,3 +19,9 @@ pub record PointsTo (contents : Contents (Segment Pool)) (memory : MemoryState) 
   pub positive : 1 ≤ segment.allocator.buckets.size
   pub owner : slice_get owners (offset_of pointer / segment.allocator.buckets.size) ≡ Some index
   pub stands : slice_get entries index ≡ Some entry
+
+-- The memory has the segment, and a pointer can name the place of the bucket there.
+pub record HasPlace (contents : Contents (Segment Pool)) (memory : MemoryState) (number bucket : ℕ) : Type 0 where
+  pub segment : Segment Pool
+  pub there : segment_value contents memory.slots number ≡ Some segment
+  pub small : bucket * segment.allocator.buckets.size < max_memory_size
