@@ -1,9 +1,12 @@
 -- A release, from what the calls on the port and the view say.
-use Rattle.std.proofs.Common.{ℕ, ◌+◌, ◌-◌, ◌*◌, ◌<◌, ◌≤◌, ◌≡◌, ◌≢◌, Bool, true, false, cond, ◌&&◌, nat_eq, nat_lt, List, length, set, get_or, Option, Some, None, Result, Ok, Err, refl, sym, ap, ◌∙◌, subst, arith}
+use Rattle.std.proofs.Common.{IsSomeAnd, option_map, ℕ, ◌+◌, ◌-◌, ◌*◌, ◌<◌, ◌≤◌, ◌≡◌, ◌≢◌, Bool, true, false, cond, ◌&&◌, nat_eq, nat_lt, List, length, set, get_or, Option, Some, None, Result, Ok, Err, refl, sym, ap, ◌∙◌, subst, arith}
 use Rattle.std.specs.List.{slice_get}
-use Rattle.std.proofs.lemmas.Bool.{eqb-true, eqb-false, and_parts}
+use Rattle.std.proofs.lemmas.Nat.{mul-add-lt}
+use Rattle.std.proofs.lemmas.Bool.{true≢false, eqb-true, eqb-false, eq-eqb, ltb-true, lt-ltb, and_parts, or_right}
 use Rattle.std.proofs.lemmas.List.{get_or-set_same, get_or-set_other, length-set, length-map, set-get_or}
-use Rattle.cal_alloc.specs.PointerOffset.{segment_of}
+use Rattle.cal_alloc.specs.Growth.{SegmentLayout}
+use Rattle.cal_alloc.specs.Limits.{max_memory_size}
+use Rattle.cal_alloc.specs.PointerOffset.{segment_of, pointer_offset}
 use Rattle.cal_alloc.specs.Pool.{Pool}
 use Rattle.cal_queue.specs.Queue.{after_push, is_full}
 use Rattle.cal_queue.specs.UsedChunks.{UsedChunks, none_used, contains, capacity_of, after_removal}
@@ -14,7 +17,7 @@ use Rattle.cal_connection.specs.declared.errors.ZeroCopyReleaseError.TheVariants
 use Rattle.cal_connection.specs.Channel.{ChannelEntry, Shape, shape, release_answer, after_release, count_after_release}
 use Rattle.cal_connection.specs.Port.{PortEntry, ReceiverEnd, channel_of, with_channel_of, count_at, with_count}
 use Rattle.cal_connection.specs.RegistryLemmas.{with_channel_of-present}
-use Rattle.cal_resizable.specs.Slots.{count_at as slots_count}
+use Rattle.cal_resizable.specs.Slots.{HeldSegment, segment_at, count_at as slots_count}
 use Rattle.cal_resizable.specs.View.{View}
 use Rattle.cal_transport.specs.declared.command.Command.TheVariants as command
 use Rattle.cal_transport.specs.declared.settings.Settings.{Settings}
@@ -24,17 +27,25 @@ use Rattle.cal_transport.specs.declared.reply.Refusal.TheVariants as refusal
 use Rattle.cal_transport.specs.declared.ported.chunk_entry.ChunkEntry.{ChunkEntry}
 use Rattle.cal_transport.specs.declared.ported.chunk_entry.Found.{Found}
 use Rattle.cal_transport.specs.Settings.{completion_size}
-use Rattle.cal_transport.specs.Ledger.{Ledger, Chunk, ChannelHistory, is_borrowed, completed_names}
+use Rattle.cal_transport.specs.Ledger.{Ledger, Chunk, ChannelHistory, layout_at, is_live, is_borrowed, completed_names}
 use Rattle.cal_transport.specs.ChunkEntry.{HasNoEntry, IsFound}
-use Rattle.cal_transport.specs.Shown.{Shows, Tracks, ShowsChannel, pointer_to, pointer_named, entry_of}
-use Rattle.cal_transport.specs.Viewing.{mapped_after_return}
+use Rattle.cal_transport.specs.Weights.{one_if, borrows, borrowed_in}
+use Rattle.cal_transport.specs.Pointed.{HasPlace}
+use Rattle.cal_transport.specs.Shown.{Shows, Tracks, ShowsChannel, ShowsMapped, pointer_to, pointer_named, entry_of}
+use Rattle.cal_transport.specs.Viewing.{is_told, mapped_after_return}
 use Rattle.cal_transport.specs.Sharing.{GoesBack}
 use Rattle.cal_transport.specs.State.{TransportState, core_of, active_of, mapped_at, LinksPorts, IsLinked, Represents, DoesAnywhere}
 use Rattle.cal_transport.proofs.Settled.{IsSettled, settled}
 use Rattle.cal_transport.proofs.PortCalls.{channel_is, with_is, channel_here, channel_else, links_after, count_here, count_else, counts_long}
 use Rattle.cal_transport.proofs.Represented.{IsPlaceless, stands, state_same}
 use Rattle.cal_transport.proofs.Stands.{HasHistory, has_history, Steps}
-use Rattle.cal_transport.proofs.Fronts.{is_pointer}
+use Rattle.cal_transport.proofs.Changed.{transit_lives, borrowed_transits}
+use Rattle.cal_transport.proofs.Totals.{total_least}
+use Rattle.cal_transport.proofs.Names.{fewer_released}
+use Rattle.cal_transport.proofs.Mapped.{mapped_told}
+use Rattle.cal_transport.proofs.Marks.{mark_below}
+use Rattle.cal_transport.proofs.Seen.{is_seen}
+use Rattle.cal_transport.proofs.Fronts.{is_pointer, sizes_of, has_segment, alive_active}
 use Rattle.cal_transport.proofs.Finding.{IsChunk, found_chunk, found_none}
 use Rattle.cal_transport.proofs.Lent.{IsNamable, namable, unknown_unborrowed, found_tells}
 use Rattle.cal_transport.proofs.ReleaseStep.{Releases, IsBorrowed, releases, release_unborrowed, release_full, may_release}
@@ -66,6 +77,34 @@ answer_full ch why is = go (is_full ch.completion) refl is
         is_full ch.completion ≡ true
     go true e q = e
     go false e q = absurd (let q2 = q in cc)
+
+-- ---- the place of a live chunk
+
+pub record PlaceOf (t : TransportState) (l : Ledger) (chunk : Chunk) (entry : ChunkEntry) : Type 0 where
+  pub place : HasPlace t.memory_registry t.memory entry.segment entry.bucket
+  pub pointer_is : pointer_offset (entry.bucket * place.segment.allocator.buckets.size) entry.segment
+      ≡ pointer_to l chunk
+
+pub place_of : (t : TransportState) (l : Ledger) → IsSettled l → Shows (core_of t) l → (i : ℕ) (chunk : Chunk) →
+    slice_get l.chunks i ≡ Some chunk → is_live l chunk ≡ true → PlaceOf t l chunk (entry_of l.histories chunk)
+place_of t l s shows i chunk there alive =
+    let had = has_segment (core_of t) l chunk.segment shows (alive_active l s i chunk there alive) in
+    let seen = is_seen t.memory_registry t.memory chunk.segment had.shown had.has in
+    let size_is : seen.segment.allocator.buckets.size ≡ (layout_at l chunk.segment).size =
+    ap (λ (q : Pool). q.buckets.size) seen.pool ∙ ap (λ (b : SegmentLayout). b.size) had.shows.layout in
+    let sizes = sizes_of l s i chunk there in
+    let within = s.within i chunk there in
+    let below = mul-add-lt chunk.bucket (layout_at l chunk.segment).size 0 (layout_at l chunk.segment).count
+    within.bucket sizes.not_empty in
+    let most = sizes.payload in
+    record {
+      place = record {
+        segment = seen.segment;
+        there = seen.there;
+        small = subst (λ n. chunk.bucket * n < max_memory_size) (sym size_is) (omega arith);
+      };
+      pointer_is = ap (λ n. pointer_offset (chunk.bucket * n) chunk.segment) size_is;
+    }
 
 module _ (t : TransportState) (linked : IsLinked t) (k : ℕ) (inside : k < t.settings.channels) (name : ℕ) where
   abbrev ch : ChannelEntry
@@ -117,6 +156,24 @@ module _ (t : TransportState) (linked : IsLinked t) (k : ℕ) (inside : k < t.se
         (λ any. release_unborrowed (core_of t) l any k name (has l r).history r.shows r.tracks (inside_l l r)
         (has l r).on (sym (tells l r) ∙ unlent))
 
+    -- the marks of the channel, and that of a chunk that is in transit
+    pub marks_many : (l : Ledger) (r : Represents t l) →
+        capacity_of (get_or t.lent k (none_used 0)) ≡ t.settings.segments * t.settings.samples
+    marks_many l r = (r.tracks.channels k (has l r).history (has l r).here).room
+        ∙ ap (λ (s : Settings). s.segments * s.samples) (sym r.shows.settings)
+
+    pub transit_mark : (l : Ledger) (r : Represents t l) → 0 < found.entry.transits →
+        mark < t.settings.segments * t.settings.samples
+    transit_mark l r some =
+        let c = of l r in
+        let n = namable l (settled l r.place r.sound) found.index c.chunk c.stands
+        (ap (λ (e : ChunkEntry). nat_lt 0 e.transits) (sym c.entry_is) ∙ lt-ltb 0 found.entry.transits some) in
+        subst (λ (e : ChunkEntry). e.segment * t.settings.samples + e.bucket < t.settings.segments * t.settings.samples)
+        (sym c.entry_is)
+        (mark_below t.settings.segments t.settings.samples c.chunk.segment c.chunk.bucket
+        (subst (λ (s : Settings). c.chunk.segment < s.segments) (sym r.shows.settings) n.segment)
+        (subst (λ (s : Settings). c.chunk.bucket < s.samples) (sym r.shows.settings) n.bucket))
+
     module _ (lent : is_lent ≡ true) where
       borrowed : (l : Ledger) (r : Represents t l) → is_borrowed (has l r).history name ≡ true
       borrowed l r = sym (tells l r) ∙ lent
@@ -137,6 +194,53 @@ module _ (t : TransportState) (linked : IsLinked t) (k : ℕ) (inside : k < t.se
         within_segments = (names_it l r).segment;
         within_samples = (names_it l r).bucket;
       }
+
+      pub lent_mark : (l : Ledger) (r : Represents t l) → mark < t.settings.segments * t.settings.samples
+      lent_mark l r = transit_mark l r (ltb-true 0 found.entry.transits counted)
+
+      -- its place in the memory, and the pointer there
+      pub place : (l : Ledger) (r : Represents t l) → PlaceOf t l (of l r).chunk found.entry
+      place l r = subst (PlaceOf t l (of l r).chunk) (sym (of l r).entry_is)
+          (place_of t l (settled l r.place r.sound) r.shows found.index (of l r).chunk (of l r).stands
+          (transit_lives l k (has l r).history (of l r).chunk (has l r).here
+          (borrowed_transits (has l r).history (of l r).chunk.name (at l r).borrowed)))
+
+      pub pointer_by : (pointer : ℕ) → ((p : HasPlace t.memory_registry t.memory found.entry.segment found.entry.bucket) →
+          pointer ≡ pointer_offset (found.entry.bucket * p.segment.allocator.buckets.size) found.entry.segment) →
+          (l : Ledger) (r : Represents t l) → pointer ≡ pointer_to l (of l r).chunk
+      pointer_by pointer is l r = is (place l r).place ∙ (place l r).pointer_is
+
+      -- it is counted by the receiver, and by the view
+      pub counts_it : (l : Ledger) (r : Represents t l) → 0 < count_at t.receiver k
+      counts_it l r =
+          let fewer = fewer_released (has l r).history name
+          ((settled l r.place r.sound).orderly k (has l r).history (has l r).here) (borrowed l r) in
+          let counted = (r.shows.channels k (has l r).history (has l r).here).borrowed in omega arith
+
+      some_borrowed : (l : Ledger) (r : Represents t l) → 0 < borrowed_in l (of l r).chunk.segment
+      some_borrowed l r =
+          let c = (of l r).chunk in
+          let own = total_least (λ h. one_if (is_borrowed h c.name)) l.histories k (has l r).history (has l r).here in
+          let all = total_least (λ d. cond (nat_eq d.segment c.segment) (borrows l.histories d.name) 0) l.chunks
+          found.index c (of l r).stands in
+          let same = ap (λ b. cond b (borrows l.histories c.name) 0) (eq-eqb c.segment c.segment refl) in
+          let is = ap one_if (at l r).borrowed in omega arith
+
+      pub registered : (pointer : ℕ) (l : Ledger) (r : Represents t l) → pointer ≡ pointer_to l (of l r).chunk →
+          IsSomeAnd (segment_at t.view.slots (segment_of pointer)) (λ held. 0 < held.count)
+      registered pointer l r is =
+          subst (λ n. IsSomeAnd (segment_at t.view.slots n) (λ held. 0 < held.count))
+          (sym (ap segment_of is
+          ∙ (is_pointer l (settled l r.place r.sound) found.index (of l r).chunk (of l r).stands).segment))
+          (go (segment_at t.view.slots (of l r).chunk.segment) (r.shows.mapped (of l r).chunk.segment))
+        where
+          go : (o : Option HeldSegment) → ShowsMapped l (of l r).chunk.segment (option_map (λ h. h.count) o) →
+              IsSomeAnd o (λ held. 0 < held.count)
+          go None q = absurd (true≢false (sym (or_right (is_told l.opened_last (of l r).chunk.segment)
+              (nat_lt 0 (borrowed_in l (of l r).chunk.segment))
+              (lt-ltb 0 (borrowed_in l (of l r).chunk.segment) (some_borrowed l r)))
+              ∙ sym (mapped_told l (of l r).chunk.segment) ∙ q))
+          go (Some held) q = let some = some_borrowed l r in let same = q.1 in omega arith
 
       -- the completion queue has room for what a channel may owe
       capacity : (l : Ledger) (r : Represents t l) → ch.completion.capacity ≡ completion_size l.settings
