@@ -1,17 +1,16 @@
 -- What a view has mapped after an offset has arrived or was given back, as its calls say it.
-use Rattle.std.proofs.Common.{ℕ, ◌+◌, ◌-◌, ◌<◌, ◌≡◌, ◌≢◌, Bool, true, false, cond, nat_eq, nat_lt, List, length, set, Option, Some, None, is_some, option_map, IsSome, inl, inr, refl, sym, ap, ◌∙◌, subst, arith}
+use Rattle.std.proofs.Common.{ℕ, ◌+◌, ◌-◌, ◌<◌, ◌≡◌, ◌≢◌, Bool, true, false, cond, nat_eq, nat_lt, length, set, Option, Some, None, is_some, option_map, IsSome, inl, inr, refl, sym, ap, ◌∙◌, subst, arith}
 use Rattle.std.proofs.lemmas.Bool.{true≢false, false≢true, cases_lt, eq-eqb, ne_eqb, eqb-true, eqb-false}
 use Rattle.std.proofs.lemmas.Bool.Decides.{nat_tests}
 use Rattle.std.proofs.lemmas.List.{get_or-set_same, get_or-set_other, get_or_past, length-set}
-use Rattle.std.proofs.lemmas.Option.{none-some, same_Some}
 use Rattle.cal_alloc.specs.Pool.{Pool}
 use Rattle.cal_storage.specs.Contents.{Contents, is_id, id_at, found_handle}
 use Rattle.cal_shm.specs.Segment.{Segment}
 use Rattle.cal_resizable.specs.Chunks.{segment_value}
 use Rattle.cal_resizable.specs.Memory.{MemoryState}
 use Rattle.cal_resizable.specs.Together.{AreTogether}
-use Rattle.cal_resizable.specs.Slots.{Handle, Slots, HeldSegment, segment_at, count_in, count_at, counted_more, counted_less, with_more, with_less, with_segment, without_segment, without_unused}
-use Rattle.cal_resizable.specs.View.{View, IsView, view_after_arrival, with_found, mapping, registering, unregistering, without_unused_of, leaving_of, segment_path}
+use Rattle.cal_resizable.specs.Slots.{Slots, HeldSegment, segment_at, count_in, count_at, counted_more, counted_less, with_more, with_less, without_segment, without_unused}
+use Rattle.cal_resizable.specs.View.{View, IsView, view_after_arrival, with_found, mapping, registering, unregistering, without_unused_of, segment_path}
 use Rattle.cal_transport.specs.State.{mapped_at}
 use Rattle.cal_transport.specs.Sharing.{Arrives}
 use Rattle.cal_transport.specs.Viewing.{is_told, while_counted, opened_after_arrival, mapped_after_arrival, mapped_after_return}

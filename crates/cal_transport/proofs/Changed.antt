@@ -1,15 +1,13 @@
 -- One chunk and the history of one channel change, and nothing else: what that does to tests and sums over a ledger.
-use Rattle.std.proofs.Common.{ℕ, ◌+◌, ◌<◌, ◌≡◌, ◌≢◌, Bool, true, false, cond, not, ◌&&◌, ◌||◌, nat_eq, nat_lt, List, [], ◌∷◌, length, set, Option, Some, option_to_list, inl, inr, refl, sym, ap, ◌∙◌, subst, arith}
+use Rattle.std.proofs.Common.{ℕ, ◌+◌, ◌≡◌, ◌≢◌, Bool, true, false, cond, not, ◌&&◌, ◌||◌, nat_eq, nat_lt, length, set, Option, Some, option_to_list, inl, inr, refl, sym, ap, ◌∙◌, arith}
 use Rattle.std.specs.List.{slice_get, list_any}
 use Rattle.std.proofs.lemmas.Bool.{true≢false, cases_Bool, false_from_ne_true, and_parts, and_left, or_left, or_right, eqb-true}
-use Rattle.std.proofs.lemmas.Option.{same_Some}
 use Rattle.cal_transport.specs.Ledger.{Ledger, Chunk, ChannelHistory, is_live, is_free, is_unused, is_mapped, is_in_transit, is_borrowed, is_borrowed_anywhere, live_chunks, has_name, queued_names, completed_names}
-use Rattle.cal_transport.specs.Soundness.{ShareBucket}
-use Rattle.cal_transport.specs.Weights.{total, one_if, transits, borrows, lies_in, holds, live_in, borrowed_in, transits_on, transits_in}
-use Rattle.cal_transport.proofs.Lists.{same_or_apart, slice_get-set_same, slice_get-set_else, written_or_old}
+use Rattle.cal_transport.specs.Weights.{one_if, transits, borrows, lies_in, holds, live_in, borrowed_in, transits_on, transits_in}
+use Rattle.cal_transport.proofs.Lists.{slice_get-set_same, slice_get-set_else}
 use Rattle.cal_transport.proofs.Following.{any_from}
 use Rattle.cal_transport.proofs.Settled.{IsSettled}
-use Rattle.cal_transport.proofs.Totals.{not-not, any_agree, any_none, any_set, any_alone, any_filter, total_agree, total_set, any_total, one_tells}
+use Rattle.cal_transport.proofs.Totals.{not-not, any_set, any_alone, any_filter, total_set, any_total, one_tells}
 
 -- the channel and the chunk that change
 pub record Change : Type 0 where

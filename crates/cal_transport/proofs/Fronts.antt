@@ -1,15 +1,14 @@
 -- A pointer that a queue gives leads to the chunk of the queue's first name, which is in transit and lies in an active
 -- segment.
-use Rattle.std.proofs.Common.{ℕ, ◌+◌, ◌*◌, ◌/◌, ◌%◌, ◌<◌, ◌≤◌, ◌≡◌, ◌≢◌, true, nat_lt, nat_eq, ◌&&◌, ◌||◌, List, [], ◌∷◌, length, map, Option, Some, None, option_map, refl, sym, ap, ◌∙◌, subst, arith}
+use Rattle.std.proofs.Common.{ℕ, ◌*◌, ◌/◌, ◌<◌, ◌≤◌, ◌≡◌, true, nat_lt, nat_eq, ◌&&◌, ◌||◌, List, [], ◌∷◌, length, map, Option, Some, None, option_map, refl, sym, ap, ◌∙◌, subst, arith}
 use Rattle.std.specs.List.{slice_get}
 use Rattle.std.proofs.lemmas.Bool.{true≢false, and_from, or_right, eq-eqb, lt-ltb}
 use Rattle.std.proofs.lemmas.Option.{same_Some, none-some, slice_get-get_or, slice_get-map}
 use Rattle.std.proofs.Math.Nat.{mul-div_cancel}
 use Rattle.cal_alloc.specs.Growth.{SegmentLayout}
-use Rattle.cal_alloc.specs.PointerOffset.{pointer_offset, offset_of, segment_of}
+use Rattle.cal_alloc.specs.PointerOffset.{offset_of, segment_of}
 use Rattle.cal_transport.specs.declared.reply.Slot.{Slot}
 use Rattle.cal_transport.specs.declared.ported.chunk_entry.ChunkEntry.{ChunkEntry}
-use Rattle.cal_transport.specs.Settings.{payload}
 use Rattle.cal_transport.specs.Ledger.{Ledger, Chunk, ChannelHistory, layout_at, current, chunk_named, is_live, is_in_transit}
 use Rattle.cal_transport.specs.Parts.{weight}
 use Rattle.cal_transport.specs.Step.{front, slot_of, slot_named}
@@ -155,8 +154,7 @@ pub led : (p : Core) (l : Ledger) (i : ℕ) (chunk : Chunk) (index : ℕ) (entry
     slice_get (p.owners chunk.segment) chunk.bucket ≡ Some index → slice_get p.entries index ≡ Some entry →
     (index ≡ i) × (entry ≡ entry_of l.histories chunk)
 led p l i chunk index entry shows tracks there alive owner stands =
-    let same = same_Some index i (sym owner ∙ tracks.owners i chunk there alive) in
-    (
+    let same = same_Some index i (sym owner ∙ tracks.owners i chunk there alive) in (
       same,
       same_Some entry (entry_of l.histories chunk)
           (sym stands ∙ ap (slice_get p.entries) same ∙ entry_at p l i chunk shows there),

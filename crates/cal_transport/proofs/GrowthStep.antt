@@ -1,5 +1,5 @@
 -- A memory has grown by a segment, of which no chunk is out yet: the parts show the ledger that has this segment too.
-use Rattle.std.proofs.Common.{ℕ, suc, ◌+◌, ◌-◌, ◌*◌, ◌<◌, ◌≤◌, ◌≡◌, ◌≢◌, Bool, true, false, cond, not, ◌&&◌, ◌||◌, nat_eq, nat_lt, List, [], ◌∷◌, ◌++◌, length, get_or, map, Option, Some, None, inl, inr, refl, sym, ap, ◌∙◌, subst, arith, length-append}
+use Rattle.std.proofs.Common.{ℕ, suc, ◌+◌, ◌-◌, ◌*◌, ◌<◌, ◌≤◌, ◌≡◌, ◌≢◌, Bool, true, false, cond, not, ◌&&◌, ◌||◌, nat_eq, nat_lt, List, [], ◌∷◌, ◌++◌, length, get_or, Option, Some, None, inl, inr, refl, sym, ap, ◌∙◌, subst, arith, length-append}
 use Rattle.std.specs.List.{slice_get}
 use Rattle.std.proofs.lemmas.Bool.{true≢false, eq-eqb, ne_eqb, lt-ltb, ltb-true, and_left, and_parts}
 use Rattle.std.proofs.lemmas.Bool.Decides.{nat_tests}
@@ -11,10 +11,10 @@ use Rattle.cal_alloc.specs.PointerOffset.{pointer_offset}
 use Rattle.cal_queue.specs.UsedChunks.{contains, capacity_of}
 use Rattle.cal_connection.specs.Channel as channel
 use Rattle.cal_transport.specs.Settings.{payload}
-use Rattle.cal_transport.specs.Ledger.{Ledger, Chunk, ChannelHistory, layout_at, current, chunk_named, is_live, is_free, is_unused, is_in_transit, queued_names, completed_names}
-use Rattle.cal_transport.specs.Weights.{lies_in, holds, live_in, one_if, total}
+use Rattle.cal_transport.specs.Ledger.{Ledger, Chunk, ChannelHistory, layout_at, current, chunk_named, is_live, is_free, is_unused, queued_names, completed_names}
+use Rattle.cal_transport.specs.Weights.{lies_in, live_in, one_if, total}
 use Rattle.cal_transport.specs.Core.{Core, ActiveSegment, if_active}
-use Rattle.cal_transport.specs.Shown.{is_active, ShowsSegment, ShowsActive, ShowsBytes, ShowsMapped, ShowsChannel, TracksChannel, Shows, Tracks, pointer_to, pointer_of, pointer_named, bytes_at}
+use Rattle.cal_transport.specs.Shown.{is_active, ShowsSegment, ShowsActive, ShowsMapped, ShowsChannel, Shows, Tracks, pointer_to, pointer_of, pointer_named, bytes_at}
 use Rattle.cal_transport.proofs.Lists.{same_or_apart, map_agree}
 use Rattle.cal_transport.proofs.Steps.{find_stands}
 use Rattle.cal_transport.proofs.Settled.{IsSettled}

@@ -1,20 +1,20 @@
 -- What the parts show of a ledger where one chunk and one channel's history change: the parts that this leaves.
-use Rattle.std.proofs.Common.{ℕ, zero, suc, ◌+◌, ◌-◌, ◌*◌, ◌<◌, ◌≤◌, ◌≡◌, ◌≢◌, Bool, true, false, cond, not, ◌&&◌, ◌||◌, nat_eq, nat_lt, List, [], ◌∷◌, length, map, set, Option, Some, None, option_map, option_to_list, find, inl, inr, refl, sym, ap, ◌∙◌, subst, arith}
+use Rattle.std.proofs.Common.{ℕ, zero, suc, ◌-◌, ◌≤◌, ◌≡◌, ◌≢◌, Bool, true, false, cond, not, ◌&&◌, ◌||◌, nat_eq, nat_lt, List, [], ◌∷◌, length, map, set, Option, Some, None, option_map, option_to_list, find, inl, inr, refl, sym, ap, ◌∙◌, subst, arith}
 use Rattle.std.specs.List.{slice_get}
 use Rattle.std.proofs.lemmas.Bool.{true≢false, cases_Bool, and_from, or_right, cases_lt, eq-eqb, ne_eqb, lt-ltb}
 use Rattle.std.proofs.lemmas.Option.{same_Some, none-some}
 use Rattle.std.proofs.lemmas.List.{get_or_past, length-set}
 use Rattle.cal_alloc.specs.Pool.{Pool, is_used, with_mark}
 use Rattle.cal_transport.specs.Settings.{payload}
-use Rattle.cal_transport.specs.Ledger.{Ledger, Chunk, ChannelHistory, layout_at, current, chunk_named, is_live, is_free, is_unused, is_mapped, is_in_transit, has_name}
-use Rattle.cal_transport.specs.Weights.{transits, borrows, one_if, live_in, borrowed_in}
+use Rattle.cal_transport.specs.Ledger.{Ledger, Chunk, layout_at, current, chunk_named, is_live, is_free, is_mapped, has_name}
+use Rattle.cal_transport.specs.Weights.{borrows, one_if, live_in, borrowed_in}
 use Rattle.cal_transport.specs.declared.ported.chunk_entry.ChunkEntry.{ChunkEntry}
 use Rattle.cal_transport.specs.Core.{Core, ActiveSegment, without_bucket, if_active, given_back, GivesBack}
 use Rattle.cal_transport.specs.Shown.{is_active, ShowsSegment, ShowsActive, ShowsBytes, ShowsMapped, pointer_to, pointer_of, pointer_named, entry_of}
 use Rattle.cal_transport.proofs.Changing.{mark_here, mark_else}
 use Rattle.cal_transport.proofs.Totals.{and-false, total_least}
 use Rattle.cal_transport.proofs.Lists.{same_or_apart, map-set_agree, map_agree}
-use Rattle.cal_transport.proofs.Changed.{Change, Changes, changed, live_is, used_is, in_use_is, mapped_is, lies_there, other_name, transits_else, live_else, stood, stands_after, mark_right, marks_same, marks_live, live_in-after, borrowed_in-after}
+use Rattle.cal_transport.proofs.Changed.{Change, Changes, changed, used_is, in_use_is, mapped_is, lies_there, other_name, transits_else, live_else, stood, stands_after, mark_right, marks_same, marks_live, live_in-after, borrowed_in-after}
 
 -- ---- segments
 

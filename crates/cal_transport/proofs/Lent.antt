@@ -1,16 +1,15 @@
 -- What the lists of lent buckets tell of the chunk that a name leads to.
-use Rattle.std.proofs.Common.{ℕ, ◌+◌, ◌*◌, ◌<◌, ◌≡◌, Bool, true, false, ◌&&◌, ◌||◌, nat_lt, List, get_or, Option, Some, None, refl, sym, ap, ◌∙◌, subst, arith}
+use Rattle.std.proofs.Common.{ℕ, ◌+◌, ◌*◌, ◌<◌, ◌≡◌, Bool, true, false, ◌&&◌, nat_lt, Some, None, refl, sym, ap, ◌∙◌, subst}
 use Rattle.std.specs.List.{slice_get, list_any}
-use Rattle.std.proofs.lemmas.Bool.{true≢false, ltb-true, or_right, and_from}
+use Rattle.std.proofs.lemmas.Bool.{true≢false, ltb-true, or_right}
 use Rattle.std.proofs.lemmas.Option.{same_Some, none-some}
-use Rattle.cal_queue.specs.UsedChunks.{contains, none_used}
+use Rattle.cal_queue.specs.UsedChunks.{contains}
 use Rattle.cal_transport.specs.declared.ported.chunk_entry.ChunkEntry.{ChunkEntry}
-use Rattle.cal_transport.specs.Ledger.{Ledger, Chunk, ChannelHistory, chunk_named, is_live, is_in_transit, is_borrowed}
+use Rattle.cal_transport.specs.Ledger.{Ledger, Chunk, ChannelHistory, chunk_named, is_in_transit, is_borrowed}
 use Rattle.cal_transport.specs.Parts.{weight}
-use Rattle.cal_transport.specs.Soundness.{IsSentChunk}
 use Rattle.cal_transport.specs.Weights.{transits, one_if}
 use Rattle.cal_transport.specs.Core.{Core}
-use Rattle.cal_transport.specs.Shown.{Shows, Tracks, entry_of}
+use Rattle.cal_transport.specs.Shown.{Shows, Tracks}
 use Rattle.cal_transport.proofs.Changed.{live_is, borrowed_transits}
 use Rattle.cal_transport.proofs.Following.{Passes, any_at, any_from}
 use Rattle.cal_transport.proofs.Totals.{any_total, one_tells}

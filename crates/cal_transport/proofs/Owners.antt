@@ -1,5 +1,5 @@
 -- The owner of a bucket, read from the table of its segment.
-use Rattle.std.proofs.Common.{ℕ, ◌<◌, ◌≡◌, List, [], length, get_or, map, Option, Some, None, Vec, vec_items, IsSome, refl, inl, inr, sym, ap, ◌∙◌, arith}
+use Rattle.std.proofs.Common.{ℕ, ◌≡◌, List, [], length, get_or, map, Option, Some, None, Vec, vec_items, IsSome, refl, inl, inr, sym, ap, ◌∙◌, arith}
 use Rattle.std.specs.declared.alloc.Global.{Global}
 use Rattle.std.specs.List.{slice_get}
 use Rattle.std.proofs.Math.ListN.{get_or-map}

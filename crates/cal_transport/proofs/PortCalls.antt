@@ -1,12 +1,12 @@
 -- What a call of a port on one channel does to the channels that both ports see.
-use Rattle.std.proofs.Common.{ℕ, ◌<◌, ◌≡◌, ◌≢◌, length, set, get_or, refl, sym, ap, ◌∙◌, subst, arith}
+use Rattle.std.proofs.Common.{ℕ, ◌<◌, ◌≡◌, ◌≢◌, length, sym, ap, ◌∙◌, subst, arith}
 use Rattle.std.proofs.lemmas.List.{get_or_default, get_or-set_same, get_or-set_other, length-set}
 use Rattle.cal_storage.specs.declared.handle.Handle.{Handle}
-use Rattle.cal_storage.specs.Contents.{Contents, Has, with_value}
+use Rattle.cal_storage.specs.Contents.{Contents, with_value}
 use Rattle.cal_connection.specs.declared.settings.ConnectionSettings.{ConnectionSettings}
 use Rattle.cal_connection.specs.Channel.{ChannelEntry, shape}
-use Rattle.cal_connection.specs.Port.{PortEntry, IsSoundPort, ReceiverEnd, no_channel, port_at, with_port, channel_at, with_channel, channel_of, with_channel_of, settings_at, count_at, with_count}
-use Rattle.cal_connection.specs.PortLemmas.{length-channels, shape-channel_at, IsSoundPort-changed, channel_at-other}
+use Rattle.cal_connection.specs.Port.{PortEntry, IsSoundPort, ReceiverEnd, no_channel, port_at, channel_at, with_channel, channel_of, with_channel_of, settings_at, count_at, with_count}
+use Rattle.cal_connection.specs.PortLemmas.{length-channels, IsSoundPort-changed}
 use Rattle.cal_connection.specs.RegistryLemmas.{port_at-with_port-same, Has-with_port}
 use Rattle.cal_transport.specs.declared.settings.Settings.{Settings}
 use Rattle.cal_transport.specs.State.{LinksPorts}

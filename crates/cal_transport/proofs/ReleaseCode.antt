@@ -14,7 +14,7 @@ use Rattle.cal_storage.specs.Contents.{Contents}
 use Rattle.cal_shm.specs.Segment.{Segment}
 use Rattle.cal_connection.specs.declared.errors.ZeroCopyReleaseError.{ZeroCopyReleaseError}
 use Rattle.cal_connection.specs.declared.errors.ZeroCopyReleaseError.TheVariants as error
-use Rattle.cal_connection.specs.Channel.{ChannelEntry, Shape, shape, release_answer, after_release, count_after_release}
+use Rattle.cal_connection.specs.Channel.{ChannelEntry, Shape, release_answer, after_release, count_after_release}
 use Rattle.cal_connection.specs.Port.{PortEntry, ReceiverEnd, channel_of, with_channel_of, count_at, with_count}
 use Rattle.cal_connection.specs.RegistryLemmas.{with_channel_of-present}
 use Rattle.cal_resizable.specs.Slots.{HeldSegment, segment_at, count_at as slots_count}
@@ -27,11 +27,11 @@ use Rattle.cal_transport.specs.declared.reply.Refusal.TheVariants as refusal
 use Rattle.cal_transport.specs.declared.ported.chunk_entry.ChunkEntry.{ChunkEntry}
 use Rattle.cal_transport.specs.declared.ported.chunk_entry.Found.{Found}
 use Rattle.cal_transport.specs.Settings.{completion_size}
-use Rattle.cal_transport.specs.Ledger.{Ledger, Chunk, ChannelHistory, layout_at, is_live, is_borrowed, completed_names}
+use Rattle.cal_transport.specs.Ledger.{Ledger, Chunk, layout_at, is_live, is_borrowed, completed_names}
 use Rattle.cal_transport.specs.ChunkEntry.{HasNoEntry, IsFound}
 use Rattle.cal_transport.specs.Weights.{one_if, borrows, borrowed_in}
 use Rattle.cal_transport.specs.Pointed.{HasPlace}
-use Rattle.cal_transport.specs.Shown.{Shows, Tracks, ShowsChannel, ShowsMapped, pointer_to, pointer_named, entry_of}
+use Rattle.cal_transport.specs.Shown.{Shows, ShowsMapped, pointer_to, pointer_named, entry_of}
 use Rattle.cal_transport.specs.Viewing.{is_told, mapped_after_return}
 use Rattle.cal_transport.specs.Sharing.{GoesBack}
 use Rattle.cal_transport.specs.State.{TransportState, core_of, active_of, mapped_at, LinksPorts, IsLinked, Represents, DoesAnywhere}

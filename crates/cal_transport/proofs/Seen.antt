@@ -1,50 +1,22 @@
 -- What the parts of a transport have of a live chunk: its segment, and the entry to which its pointer leads.
-use Rattle.std.proofs.Common.{ℕ, ◌+◌, ◌-◌, ◌*◌, ◌/◌, ◌^◌, ◌<◌, ◌≤◌, ◌≡◌, ◌≢◌, Bool, true, false, cond, nat_le, List, [], ◌∷◌, length, set, get_or, drop, Option, Some, None, IsSome, Result, Ok, Err, option_map, refl, sym, ap, ◌∙◌, subst, arith}
+use Rattle.std.proofs.Common.{ℕ, ◌/◌, ◌≡◌, true, [], get_or, Option, Some, None, refl, ap, ◌∙◌, arith}
 use Rattle.std.specs.List.{slice_get}
-use Rattle.std.proofs.lemmas.Bool.{true≢false, leb-true, leb-false}
-use Rattle.std.proofs.lemmas.List.{get_or-set_same, get_or-set_other, length-set, set-get_or}
 use Rattle.std.proofs.lemmas.Option.{same_Some, none-some}
 use Rattle.cal_alloc.specs.Growth.{SegmentLayout}
 use Rattle.cal_alloc.specs.Pool.{Pool}
 use Rattle.cal_alloc.specs.PointerOffset.{offset_of, segment_of}
-use Rattle.cal_queue.specs.Queue.{after_pop, oldest}
-use Rattle.cal_queue.specs.UsedChunks.{UsedChunks, none_used, capacity_of, after_insertion}
 use Rattle.cal_storage.specs.Contents.{Contents}
 use Rattle.cal_shm.specs.Segment.{Segment}
-use Rattle.cal_connection.specs.declared.errors.ZeroCopyReceiveError.{ZeroCopyReceiveError}
-use Rattle.cal_connection.specs.declared.errors.ZeroCopyReceiveError.TheVariants as error
-use Rattle.cal_connection.specs.Channel.{ChannelEntry, shape, receive_answer, after_receive, count_after_receive}
-use Rattle.cal_connection.specs.Port.{PortEntry, ReceiverEnd, channel_of, with_channel_of, settings_at, count_at, with_count}
-use Rattle.cal_connection.specs.RegistryLemmas.{with_channel_of-present}
 use Rattle.cal_resizable.specs.Chunks.{segment_value}
 use Rattle.cal_resizable.specs.Memory.{MemoryState}
-use Rattle.cal_resizable.specs.Slots.{HeldSegment, segment_at, count_at as slots_count}
-use Rattle.cal_resizable.specs.View.{View}
-use Rattle.cal_transport.specs.declared.command.Command.TheVariants as command
-use Rattle.cal_transport.specs.declared.settings.Settings.{Settings}
-use Rattle.cal_transport.specs.declared.reply.Reply.{Reply}
-use Rattle.cal_transport.specs.declared.reply.Reply.TheVariants.{Received, Refused}
-use Rattle.cal_transport.specs.declared.reply.Refusal.{Refusal}
-use Rattle.cal_transport.specs.declared.reply.Refusal.TheVariants as refusal
-use Rattle.cal_transport.specs.declared.ported.chunk_entry.ChunkEntry.{ChunkEntry}
-use Rattle.cal_transport.specs.Ledger.{Ledger, Chunk, layout_at, is_live, is_borrowed, queued_names}
-use Rattle.cal_transport.specs.Step.{after_step_by}
+use Rattle.cal_resizable.specs.Slots.{count_at as slots_count}
+use Rattle.cal_transport.specs.Ledger.{Ledger, Chunk, layout_at, is_live}
 use Rattle.cal_transport.specs.Core.{ActiveSegment}
 use Rattle.cal_transport.specs.Pointed.{PointsTo}
-use Rattle.cal_transport.specs.Shown.{is_active, Shows, Tracks, ShowsMapped, pointer_to, entry_of}
-use Rattle.cal_transport.specs.Viewing.{opened_after_arrival, mapped_after_arrival}
-use Rattle.cal_transport.specs.Sharing.{Arrives}
-use Rattle.cal_transport.specs.State.{TransportState, core_of, active_of, active_at, mapped_at, LinksPorts, IsLinked, Represents, DoesAnywhere}
-use Rattle.cal_transport.proofs.Settled.{IsSettled, settled}
-use Rattle.cal_transport.proofs.PortCalls.{channel_is, with_is, borrow_limit, channel_here, channel_else, links_after, count_here, count_else, counts_long}
-use Rattle.cal_transport.proofs.Represented.{IsPlaceless, stands, state_same, room_to_borrow}
-use Rattle.cal_transport.proofs.Names.{is_borrowed_queued}
-use Rattle.cal_transport.proofs.Changed.{transit_lives}
-use Rattle.cal_transport.proofs.Marks.{mark_below}
-use Rattle.cal_transport.proofs.Segments.{shown_held}
-use Rattle.cal_transport.proofs.Stands.{has_history, Steps, SameCore}
-use Rattle.cal_transport.proofs.Fronts.{IsFront, is_pointer, pointed_bucket, has_segment, entry_at, alive_active}
-use Rattle.cal_transport.proofs.ReceiveStep.{Receives, receive_outside, receive_at_limit, receives_none, receives_some, queue_front}
+use Rattle.cal_transport.specs.Shown.{is_active, Shows, Tracks, pointer_to, entry_of}
+use Rattle.cal_transport.specs.State.{TransportState, core_of, active_of, active_at}
+use Rattle.cal_transport.proofs.Settled.{IsSettled}
+use Rattle.cal_transport.proofs.Fronts.{is_pointer, pointed_bucket, has_segment, entry_at}
 
 -- a segment that is shown has the allocator and the bytes that are shown
 pub record IsSeen (contents : Contents (Segment Pool)) (memory : MemoryState) (number : ℕ) (shown : ActiveSegment) :

@@ -1,6 +1,5 @@
 -- A segment of a memory, as its clauses say it and as its number shows it.
 use Rattle.std.proofs.Common.{ℕ, ◌≡◌, Option, Some, None, IsSome, is_some, IsSomeAnd, true, refl, sym, subst}
-use Rattle.std.proofs.lemmas.Bool.{false≢true}
 use Rattle.std.proofs.lemmas.Option.{same_Some, none-some}
 use Rattle.cal_storage.specs.Contents.{Contents, value_of}
 use Rattle.cal_shm.specs.Calls.{OfValue}

@@ -1,5 +1,5 @@
 -- What a transport is made of, and what its parts are seen as.
-use Rattle.std.specs.Prelude.{◌≡◌, ℕ, ◌+◌, ◌*◌, ◌^◌, ◌<◌, ◌≤◌, List, [], length, map, Option, Some, None, option_map, slice_index_or}
+use Rattle.std.specs.Prelude.{◌≡◌, ℕ, ◌+◌, ◌*◌, ◌^◌, ◌<◌, ◌≤◌, List, [], length, Option, Some, None, option_map, slice_index_or}
 use Rattle.cal_alloc.specs.Pool.{Pool}
 use Rattle.cal_queue.specs.UsedChunks.{UsedChunks, none_used}
 use Rattle.cal_storage.specs.declared.handle.Handle.{Handle}

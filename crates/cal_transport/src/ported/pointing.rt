@@ -76,7 +76,12 @@ pub(crate) fn unlend(lent: &mut Vec<UsedChunkList>, channel: usize, mark: usize)
 
 /// Whether the chunk of an entry is lent out on a channel. The connection can name each chunk that is in transit; others
 /// aren't looked up.
-pub(crate) fn is_lent(lent: &[UsedChunkList], channel: usize, entry: ChunkEntry, samples: usize) -> bool
+pub(crate) fn is_lent(
+    lent: &[UsedChunkList],
+    channel: usize,
+    entry: ChunkEntry,
+    samples: usize,
+) -> bool
     requires channel { channel < length lent.now }
     requires mark { 0 < entry.transits →
         entry.segment * samples + entry.bucket < capacity_of (slice_index_or lent.now channel (none_used 0)) }

@@ -41,7 +41,11 @@ impl Transport {
             &mut self.memory_registry,
             pointer,
         );
-        let mark = mark_of(found.entry.segment, self.settings.samples, found.entry.bucket);
+        let mark = mark_of(
+            found.entry.segment,
+            self.settings.samples,
+            found.entry.bucket,
+        );
         lend(&mut self.lent, channel, mark);
         Ok(Some(Slot {
             chunk: found.entry.name,
@@ -85,7 +89,11 @@ impl Transport {
             &mut self.memory_registry,
             pointer,
         );
-        let mark = mark_of(found.entry.segment, self.settings.samples, found.entry.bucket);
+        let mark = mark_of(
+            found.entry.segment,
+            self.settings.samples,
+            found.entry.bucket,
+        );
         unlend(&mut self.lent, channel, mark);
         Ok(())
     }

@@ -1,4 +1,4 @@
-use Rattle.std.proofs.Common.{◌≡◌, ◌<◌, ◌∙◌, ℕ, Some, vec_items, length, sym, ap, arith}
+use Rattle.std.proofs.Common.{◌∙◌, Some, vec_items, sym, ap, arith}
 use Rattle.std.specs.List.{slice_get}
 use Rattle.std.proofs.lemmas.Option.{slice_get_within}
 use Rattle.cal_transport.specs.ChunkEntry.{owners_of}

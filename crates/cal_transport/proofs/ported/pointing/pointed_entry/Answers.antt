@@ -1,4 +1,4 @@
-use Rattle.std.proofs.Common.{◌≡◌, ◌<◌, ℕ, subst, arith}
+use Rattle.std.proofs.Common.{◌≡◌, subst, arith}
 use Rattle.cal_alloc.specs.Pool.{Pool}
 use Rattle.cal_alloc.specs.PointerOffset.{segment_of}
 use Rattle.cal_shm.specs.Segment.{Segment}

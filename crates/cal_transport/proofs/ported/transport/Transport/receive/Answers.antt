@@ -1,4 +1,4 @@
-use Rattle.std.proofs.Common.{◌≡◌, ◌<◌, ◌∙◌, ℕ, List, Option, Some, None, Result, Ok, Err, vec_items, length, set, get_or, ◌*◌, ◌+◌, refl, sym, ap, subst, arith}
+use Rattle.std.proofs.Common.{◌≡◌, ◌<◌, ◌∙◌, ℕ, Option, Some, None, Result, Ok, Err, set, get_or, ◌*◌, ◌+◌, sym, ap, subst, arith}
 use Rattle.cal_alloc.specs.PointerOffset.{offset_of, segment_of}
 use Rattle.cal_transport.specs.declared.command.Command.TheVariants as command
 use Rattle.cal_transport.specs.declared.reply.Reply.TheVariants.{Received, Refused}
@@ -6,17 +6,15 @@ use Rattle.cal_transport.specs.declared.reply.Refusal.TheVariants as refusal
 use Rattle.cal_connection.specs.declared.errors.ZeroCopyReceiveError.{ZeroCopyReceiveError}
 use Rattle.cal_connection.specs.Port.{PortEntry, ReceiverEnd}
 use Rattle.cal_storage.specs.Contents.{Contents}
-use Rattle.cal_transport.specs.declared.ported.chunk_entry.ChunkEntry.{ChunkEntry}
 use Rattle.cal_transport.specs.ChunkEntry.{owners_of}
 use Rattle.cal_transport.specs.Ledger.{Ledger}
-use Rattle.cal_transport.specs.Shown.{entry_of}
 use Rattle.cal_transport.specs.Pointed.{PointsTo}
 use Rattle.cal_transport.specs.State.{TransportState, Represents, IsLinked, DoesAnywhere}
 use Rattle.cal_transport.specs.StateOf.{state_of}
 use Rattle.cal_queue.specs.UsedChunks.{capacity_of, none_used, after_insertion}
 use Rattle.cal_transport.specs.Step.{after_step}
 use Rattle.cal_transport.proofs.ReceiveCode.{ReceiveCall, receive_limit_state, receive_limit_does, receive_none_state, receive_none_does}
-use Rattle.cal_transport.proofs.ReceivedCode.{front_leads, front_active, front_room, front_mark, front_capacity, found_entry, entry_mark, received_linked, received_does}
+use Rattle.cal_transport.proofs.ReceivedCode.{front_leads, front_active, front_room, front_capacity, found_entry, entry_mark, received_linked, received_does}
 use Rattle.cal_transport.proofs.ported.transport.Transport.receive.Goals as goal
 
 call_at : (t : TransportState) (n k : ℕ) → n ≡ k → (a b : Result (Option ℕ) ZeroCopyReceiveError) → a ≡ b →
@@ -237,7 +235,7 @@ invariant_of-self-2 c =
       })));
       represents = does.1;
       linked = received_linked (state_of c.self.inside) c.self.invariant.linked c.args.channel c.if-channel-self.false c.in-Some.pointer
-    c.receive-answer.new.reg c.receive-answer.new.self call
+          c.receive-answer.new.reg c.receive-answer.new.self call
           c.arrive.new.reg c.arrive.new.view c.arrive.ensures.arrived c.pointed_entry-found.result.entry
           c.lend.new.lent.items lent;
     }
@@ -269,36 +267,38 @@ returns c =
     c.receive-answer.new.reg c.receive-answer.new.self call
     c.arrive.new.reg c.arrive.new.view c.arrive.ensures.arrived c.pointed_entry-found.result.entry c.lend.new.lent.items
     lent entries in
-    record { step = subst (λ t. DoesAnywhere t (command.Receive c.args.channel) (Received (Some (record {
-      chunk = c.pointed_entry-found.result.entry.name;
-      segment = c.value.result;
-      place = c.offset.result;
-    }))) (record (state_of c.self.inside) {
-      memory_registry = c.arrive.new.reg;
-      view = c.arrive.new.view;
-      connection_registry = c.receive-answer.new.reg;
-      receiver = c.receive-answer.new.self;
-      lent = c.lend.new.lent.items;
-    })) c.self.view_is
-    (subst (λ n. DoesAnywhere (state_of c.self.inside) (command.Receive c.args.channel) (Received (Some (record {
-      chunk = c.pointed_entry-found.result.entry.name;
-      segment = n;
-      place = c.offset.result;
-    }))) (record (state_of c.self.inside) {
-      memory_registry = c.arrive.new.reg;
-      view = c.arrive.new.view;
-      connection_registry = c.receive-answer.new.reg;
-      receiver = c.receive-answer.new.self;
-      lent = c.lend.new.lent.items;
-    })) (sym (c.value.ensures.value ∙ c.segment_id.ensures.value))
-    (subst (λ n. DoesAnywhere (state_of c.self.inside) (command.Receive c.args.channel) (Received (Some (record {
-      chunk = c.pointed_entry-found.result.entry.name;
-      segment = segment_of c.in-Some.pointer;
-      place = n;
-    }))) (record (state_of c.self.inside) {
-      memory_registry = c.arrive.new.reg;
-      view = c.arrive.new.view;
-      connection_registry = c.receive-answer.new.reg;
-      receiver = c.receive-answer.new.self;
-      lent = c.lend.new.lent.items;
-    })) (sym c.offset.ensures.value) does)) }
+    record {
+      step = subst (λ t. DoesAnywhere t (command.Receive c.args.channel) (Received (Some (record {
+        chunk = c.pointed_entry-found.result.entry.name;
+        segment = c.value.result;
+        place = c.offset.result;
+      }))) (record (state_of c.self.inside) {
+        memory_registry = c.arrive.new.reg;
+        view = c.arrive.new.view;
+        connection_registry = c.receive-answer.new.reg;
+        receiver = c.receive-answer.new.self;
+        lent = c.lend.new.lent.items;
+      })) c.self.view_is
+          (subst (λ n. DoesAnywhere (state_of c.self.inside) (command.Receive c.args.channel) (Received (Some (record {
+            chunk = c.pointed_entry-found.result.entry.name;
+            segment = n;
+            place = c.offset.result;
+          }))) (record (state_of c.self.inside) {
+            memory_registry = c.arrive.new.reg;
+            view = c.arrive.new.view;
+            connection_registry = c.receive-answer.new.reg;
+            receiver = c.receive-answer.new.self;
+            lent = c.lend.new.lent.items;
+          })) (sym (c.value.ensures.value ∙ c.segment_id.ensures.value))
+          (subst (λ n. DoesAnywhere (state_of c.self.inside) (command.Receive c.args.channel) (Received (Some (record {
+            chunk = c.pointed_entry-found.result.entry.name;
+            segment = segment_of c.in-Some.pointer;
+            place = n;
+          }))) (record (state_of c.self.inside) {
+            memory_registry = c.arrive.new.reg;
+            view = c.arrive.new.view;
+            connection_registry = c.receive-answer.new.reg;
+            receiver = c.receive-answer.new.self;
+            lent = c.lend.new.lent.items;
+          })) (sym c.offset.ensures.value) does));
+    }

@@ -1,4 +1,4 @@
-use Rattle.std.proofs.Common.{◌≡◌, ◌<◌, ◌≤◌, ◌∙◌, ◌*◌, ◌+◌, ◌&&◌, nat_lt, ℕ, Option, Some, None, Result, Ok, Err, set, get_or, refl, sym, ap, subst, arith}
+use Rattle.std.proofs.Common.{◌≡◌, ◌<◌, ◌≤◌, ◌∙◌, ◌*◌, ◌+◌, ◌&&◌, nat_lt, ℕ, Result, Ok, Err, set, get_or, sym, ap, subst, arith}
 use Rattle.cal_queue.specs.UsedChunks.{contains, capacity_of, none_used, after_removal}
 use Rattle.cal_storage.specs.Contents.{Contents}
 use Rattle.cal_connection.specs.declared.errors.ZeroCopyReleaseError.{ZeroCopyReleaseError}
@@ -67,7 +67,7 @@ returns-then-not-is_lent c =
       step = subst (λ t. DoesAnywhere t (command.Release c.args.channel c.args.chunk) (Refused refusal.NotBorrowed) t)
           c.self.view_is
           (release_unlent_does (state_of c.self.inside) c.self.invariant.linked c.args.channel c.if-channel-self.false c.args.chunk
-    c.in-Some.found is
+          c.in-Some.found is
           (sym told ∙ c.if-not-is_lent.true));
     }
 
@@ -141,7 +141,7 @@ returns-in-Err c =
           (subst (λ t. DoesAnywhere (state_of c.self.inside) (command.Release c.args.channel c.args.chunk)
           (Refused refusal.RetrieveBufferFull) t) (sym same)
           (release_full_does (state_of c.self.inside) c.self.invariant.linked c.args.channel c.if-channel-self.false c.args.chunk
-    c.in-Some.found is lent
+          c.in-Some.found is lent
           c.pointer_at-pointer.result c.release-answer.new.reg c.release-answer.new.self c.in-Err.field-0 call));
     }
 
@@ -198,7 +198,7 @@ invariant_of-self-2 c =
       ledger = after_step c.self.invariant.ledger 0 (command.Release c.args.channel c.args.chunk) Released;
       represents = does.1;
       linked = released_linked (state_of c.self.inside) c.self.invariant.linked c.args.channel c.if-channel-self.false c.args.chunk
-    c.in-Some.found is lent
+          c.in-Some.found is lent
           c.pointer_at-pointer.result c.release-answer.new.reg c.release-answer.new.self call
           c.go_back.new.reg c.go_back.new.view c.go_back.ensures.gone c.unlend.new.lent.items lent_is;
     }
