@@ -13,8 +13,8 @@ use crate::ported::parts::{MemoryRegistry, TransportMemory, TransportView};
 use cal_alloc::{PointerOffset, PoolAllocator};
 use cal_resizable::chunk_laws::a_call_changes_one_segment;
 use cal_resizable::together_laws::{
-    a_view_leaves_the_segments, a_view_stays_with_its_memory,
-    a_memory_stays_with_its_view, an_arrival_of_what_is_out_is_not_refused,
+    a_memory_stays_with_its_view, a_view_leaves_the_segments, a_view_stays_with_its_memory,
+    an_arrival_of_what_is_out_is_not_refused,
 };
 
 /// An offset of an active segment of the memory arrives at the view.
@@ -67,7 +67,8 @@ pub(crate) fn free_unless(
     requires out { 0 < count_at memory.old.slots (segment_of pointer) }
     requires used { OfSegment reg.old memory.old.slots (segment_of pointer)
         (λ segment. IsUsedBucket segment.allocator (pointer_offset (offset_of pointer) 0)) }
-    ensures freed { (segment : Segment Pool) → segment_value reg.old memory.old.slots (segment_of pointer) ≡ Some segment →
+    ensures freed { (segment : Segment Pool) →
+        segment_value reg.old memory.old.slots (segment_of pointer) ≡ Some segment →
         FreesUnless kept view.now reg.old memory.old (segment_of pointer)
         (offset_of pointer / segment.allocator.buckets.size) reg.new memory.new }
 {

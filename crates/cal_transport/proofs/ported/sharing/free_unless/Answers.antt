@@ -1,4 +1,4 @@
-use Rattle.std.proofs.Common.{◌/◌, ◌∙◌, false, sym, subst}
+use Rattle.std.proofs.Common.{◌/◌, ◌∙◌, sym, subst}
 use Rattle.std.proofs.lemmas.Option.{same_Some}
 use Rattle.cal_alloc.specs.Pool.{Pool}
 use Rattle.cal_alloc.specs.PointerOffset.{offset_of, segment_of}
