@@ -126,7 +126,8 @@ module _ (view : View) (number id : ℕ) (within : number < length view.slots)
   left_here : (o : Option ℕ) → view.current ≡ o → mapped_at (without_unused_of found o) number ≡ Some 0
   left_here None e = ap count_of (set_here view.slots number _ within)
   left_here (Some n) e =
-      unused_else found n number (λ same. (current n e).0 (sym same)) ∙ ap count_of (set_here view.slots number _ within)
+      unused_else found n number (λ same. (current n e).0 (sym same)) ∙ ap count_of (set_here view.slots number _
+      within)
 
   left_else : (o : Option ℕ) (other : ℕ) → view.current ≡ o → other ≢ number →
       mapped_at (without_unused_of found o) other

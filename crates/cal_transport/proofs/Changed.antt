@@ -66,7 +66,8 @@ borrowed_transits h name borrowed =
 pub used_is : (l : Ledger) (segment bucket : ℕ) →
     not (is_free l segment bucket) ≡ holds (is_live l) l.chunks segment bucket
 used_is l segment bucket =
-    not-not (list_any (lies_in segment bucket) (live_chunks l)) ∙ any_filter (lies_in segment bucket) (is_live l) l.chunks
+    not-not (list_any (lies_in segment bucket) (live_chunks l)) ∙ any_filter (lies_in segment bucket) (is_live l)
+    l.chunks
 
 -- a segment is unused where it has no live chunk
 pub in_use_is : (l : Ledger) (segment : ℕ) → not (is_unused l segment) ≡ nat_lt 0 (live_in l segment)
@@ -112,7 +113,8 @@ module _ (l : Ledger) (x : Change) (c : Changes l x) where
   pub transits_else : (name : ℕ) → name ≢ x.old_chunk.name → transits after.histories name ≡ transits l.histories name
   transits_else name apart =
       let same = ap one_if (c.transit_else name apart) in
-      let sums = total_set (λ h. one_if (is_in_transit h name)) (λ h. one_if (is_in_transit h name)) l.histories x.channel
+      let sums = total_set (λ h. one_if (is_in_transit h name)) (λ h. one_if (is_in_transit h name)) l.histories
+      x.channel
       x.old_history x.new_history c.here (λ j z elsewhere there. refl) in omega arith
 
   pub transits_here :
@@ -174,9 +176,11 @@ module _ (l : Ledger) (x : Change) (c : Changes l x) where
 
   -- in another bucket nothing changes
   marks_else : (p p' : Chunk → Bool) (segment bucket : ℕ) → Marks p p' →
-      lies_in segment bucket x.old_chunk ≡ false → holds p' after.chunks segment bucket ≡ holds p l.chunks segment bucket
+      lies_in segment bucket x.old_chunk ≡ false → holds p' after.chunks segment bucket ≡ holds p l.chunks segment
+      bucket
   marks_else p p' segment bucket m outside =
-      any_set (λ d. lies_in segment bucket d && p d) (λ d. lies_in segment bucket d && p' d) l.chunks x.index x.old_chunk
+      any_set (λ d. lies_in segment bucket d && p d) (λ d. lies_in segment bucket d && p' d) l.chunks x.index
+      x.old_chunk
       x.new_chunk c.stands
       (and_left (lies_in segment bucket x.new_chunk) (p' x.new_chunk) (lies_after segment bucket ∙ outside)
       ∙ sym (and_left (lies_in segment bucket x.old_chunk) (p x.old_chunk) outside))
@@ -223,7 +227,8 @@ module _ (l : Ledger) (x : Change) (c : Changes l x) where
       ((j : ℕ) (d : Chunk) → j ≢ x.index → slice_get l.chunks j ≡ Some d → p' d ≡ p d) →
       p' x.new_chunk ≡ p x.old_chunk → holds p' after.chunks segment bucket ≡ holds p l.chunks segment bucket
   marks_same p p' segment bucket agree same =
-      any_set (λ d. lies_in segment bucket d && p d) (λ d. lies_in segment bucket d && p' d) l.chunks x.index x.old_chunk
+      any_set (λ d. lies_in segment bucket d && p d) (λ d. lies_in segment bucket d && p' d) l.chunks x.index
+      x.old_chunk
       x.new_chunk c.stands
       (ap (λ b. b && p' x.new_chunk) (lies_after segment bucket)
       ∙ ap (λ b. lies_in segment bucket x.old_chunk && b) same)

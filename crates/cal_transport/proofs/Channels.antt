@@ -114,7 +114,8 @@ module _ (l : Ledger) (x : Change) (c : Changes l x) where
 
   size_at : (p p' : Core) → MovesTo p p' → ShowsChannel p l x.channel x.old_history → (i : ℕ) (before : Chunk) →
       slice_get l.chunks i ≡ Some before → is_in_transit x.old_history before.name ≡ true →
-      (channel.segment_at (p'.channel x.channel).segments before.segment).sample_size ≡ (layout_at l before.segment).size
+      (channel.segment_at (p'.channel x.channel).segments before.segment).sample_size ≡ (layout_at l
+      before.segment).size
   size_at p p' moves shows i before there transit = elim (same_or_apart before.segment x.old_chunk.segment) [
     | inl same ↦ elim (moves.sizes_here) [
       | inl kept ↦ ap (λ s. (channel.segment_at (p'.channel x.channel).segments s).sample_size) same ∙ kept
@@ -170,7 +171,8 @@ module _ (l : Ledger) (x : Change) (c : Changes l x) where
         (channel.is_used (p'.channel x.channel).segments segment bucket) (marks_transit l x c alive)
         (shows.used segment bucket) (moves.used_else segment bucket)
         (λ inside. at_there segment bucket (channel.is_used (p'.channel x.channel).segments)
-        (is_in_transit x.new_history x.old_chunk.name) inside moves.used_here ∙ ap (is_in_transit x.new_history) (sym c.name));
+        (is_in_transit x.new_history x.old_chunk.name) inside moves.used_here ∙ ap (is_in_transit x.new_history) (sym
+        c.name));
     sizes = size_after p p' moves shows;
   }
 

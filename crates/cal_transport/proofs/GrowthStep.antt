@@ -200,7 +200,8 @@ module _ (p p' : Core) (l : Ledger) (s : IsSettled l) (next : SegmentLayout) (fr
     where
       at_current : (o : Option ActiveSegment) → p.active p.current ≡ o → ShowsActive l p.current o →
           ShowsActive end p.current (p'.active p.current)
-      at_current (Some shown) is s = subst (ShowsActive end p.current) (sym (g.former shown is)) (former_shown shown s.1)
+      at_current (Some shown) is s = subst (ShowsActive end p.current) (sym (g.former shown is)) (former_shown shown
+          s.1)
       at_current None is inactive = absurd (true≢false (sym (active_is l p.current
           ∙ ap (λ b. b && (nat_eq p.current (current l) || nat_lt 0 (live_in l p.current)))
           (lt-ltb p.current (length l.segments) (let n = next_is in omega arith))
@@ -291,7 +292,8 @@ module _ (p p' : Core) (l : Ledger) (s : IsSettled l) (next : SegmentLayout) (fr
     channels = λ k h here. (let t = tracks.channels k h here in let same = g.tracks k in record {
       room = ap capacity_of same.lent ∙ t.room;
       lent = λ segment bucket inside below.
-          ap (λ used. contains used (segment * l.settings.samples + bucket)) same.lent ∙ t.lent segment bucket inside below;
+          ap (λ used. contains used (segment * l.settings.samples + bucket)) same.lent ∙ t.lent segment bucket inside
+          below;
       transits = same.transits ∙ t.transits;
     });
     owners = λ i chunk there living. (

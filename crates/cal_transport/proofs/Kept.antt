@@ -59,7 +59,8 @@ find_set : {A B : Type 0} (p : A → Bool) (f : A → B) (xs : List A) (i : ℕ)
 find_set p f [] i x y stands same maps = absurd (none-some x stands)
 find_set p f (z ∷ xs) zero x y stands same maps =
     let here = same_Some z x stands in
-    ap (λ b. option_map f (cond b (Some y) (find p xs))) (same ∙ ap p (sym here)) ∙ by_test (p z) (maps ∙ ap f (sym here))
+    ap (λ b. option_map f (cond b (Some y) (find p xs))) (same ∙ ap p (sym here)) ∙ by_test (p z) (maps ∙ ap f (sym
+    here))
   where
     by_test : (b : Bool) → f y ≡ f z →
         option_map f (cond b (Some y) (find p xs)) ≡ option_map f (cond b (Some z) (find p xs))
@@ -199,7 +200,8 @@ module _ (l : Ledger) (x : Change) (c : Changes l x) where
 
       is : is_active after x.old_chunk.segment ≡ (nat_eq x.old_chunk.segment (current l) || nat_lt 0 shown.chunks)
       is = active_is after x.old_chunk.segment
-          ∙ ap (λ b. b && (nat_eq x.old_chunk.segment (current l) || nat_lt 0 (live_in after x.old_chunk.segment))) within
+          ∙ ap (λ b. b && (nat_eq x.old_chunk.segment (current l) || nat_lt 0 (live_in after x.old_chunk.segment)))
+          within
           ∙ ap (λ n. nat_eq x.old_chunk.segment (current l) || nat_lt 0 n) (sym live ∙ sym counted)
 
       by_test : (b : Bool) → (nat_eq x.old_chunk.segment (current l) || nat_lt 0 shown.chunks) ≡ b →

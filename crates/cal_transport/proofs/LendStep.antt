@@ -118,10 +118,12 @@ module _ (p p' : Core) (l : Ledger) (s : IsSettled l) (place bucket : ℕ) (name
       true≢false (sym (borrowed_transits h place borrowed) ∙ never_sent k h here))
 
   no_transits : transits l.histories place ≡ 0
-  no_transits = total_none (λ h. one_if (is_in_transit h place)) l.histories (λ k h here. ap one_if (never_sent k h here))
+  no_transits = total_none (λ h. one_if (is_in_transit h place)) l.histories (λ k h here. ap one_if (never_sent k h
+      here))
 
   no_borrows : borrows l.histories place ≡ 0
-  no_borrows = total_none (λ h. one_if (is_borrowed h place)) l.histories (λ k h here. ap one_if (never_borrowed k h here))
+  no_borrows = total_none (λ h. one_if (is_borrowed h place)) l.histories (λ k h here. ap one_if (never_borrowed k h
+      here))
 
   -- ---- segments
 
@@ -294,7 +296,8 @@ module _ (p p' : Core) (l : Ledger) (s : IsSettled l) (place bucket : ℕ) (name
     where
       all_over : (m bytes : List ℕ) → length bytes ≡ length m → with_bytes m 0 bytes ≡ bytes
       all_over m bytes long =
-          ap (λ rest. bytes ++ rest) (drop_of_length-le m (let all : length m ≤ 0 + length bytes = omega arith in all)) ∙ append-nil bytes
+          ap (λ rest. bytes ++ rest) (drop_of_length-le m (let all : length m ≤ 0 + length bytes = omega arith in
+          all)) ∙ append-nil bytes
 
   bytes_end : (i : ℕ) (chunk : Chunk) (shown : ActiveSegment) → slice_get end.chunks i ≡ Some chunk →
       is_live end chunk ≡ true → p'.active chunk.segment ≡ Some shown → ShowsBytes end chunk shown
@@ -388,7 +391,8 @@ module _ (p p' : Core) (l : Ledger) (s : IsSettled l) (place bucket : ℕ) (name
       record {
         room = ap capacity_of same.lent ∙ t.room;
         lent = λ segment there in_it below.
-            ap (λ used. contains used (segment * l.settings.samples + there)) same.lent ∙ t.lent segment there in_it below
+            ap (λ used. contains used (segment * l.settings.samples + there)) same.lent ∙ t.lent segment there in_it
+            below
             ∙ sym (marks_end (λ d. is_borrowed h d.name) segment there (never_borrowed k h here));
         transits =
             let sums = total_append (λ d. one_if (is_in_transit h d.name)) l.chunks lent in

@@ -46,7 +46,8 @@ pub record IsNamable (l : Ledger) (chunk : Chunk) : Type 0 where
 
 pub namable : (l : Ledger) → IsSettled l → (i : ℕ) (chunk : Chunk) → slice_get l.chunks i ≡ Some chunk →
     nat_lt 0 (transits l.histories chunk.name) ≡ true → IsNamable l chunk
-namable l s i chunk there some = go (any_at (λ h. is_in_transit h chunk.name) l.histories (transits_tell l chunk ∙ some))
+namable l s i chunk there some = go (any_at (λ h. is_in_transit h chunk.name) l.histories (transits_tell l chunk ∙
+    some))
   where
     go : Passes (λ h. is_in_transit h chunk.name) l.histories → IsNamable l chunk
     go p =

@@ -69,4 +69,5 @@ pub mod Seen
 pub mod ReceivedCode
 pub mod Lent
 pub mod ReleaseCode
+pub mod Frees
 mod Serving

@@ -104,7 +104,8 @@ module _ (l l' : Ledger) (mapped : ℕ → Option ℕ) (segment : ℕ) (b : Borr
       is_counted was other apart
       ∙ (or_parts (is_told l.opened_last other) (nat_lt 0 (borrowed_in l other)) (sym (mapped_told l other) ∙ s)).1
   former (Some count) was other apart s =
-      counted_shows l' other count (is_counted was other apart ∙ ap (nat_lt 0) (sym s.1)) (s.1 ∙ sym (b.else other apart))
+      counted_shows l' other count (is_counted was other apart ∙ ap (nat_lt 0) (sym s.1)) (s.1 ∙ sym (b.else other
+      apart))
 
   further : (o : Option ℕ) → is_mapped l segment ≡ false → (other : ℕ) → other ≢ segment →
       is_told l.opened_last other ≡ false → ShowsMapped l other o → ShowsMapped l' other o

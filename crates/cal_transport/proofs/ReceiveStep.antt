@@ -305,7 +305,8 @@ module _ (p p' : Core) (l : Ledger) (s : IsSettled l) (k : ℕ) (h : ChannelHist
 
 -- the pointer that a channel's queue gives is that of its oldest chunk
 pub queue_front : (p : Core) (l : Ledger) (s : IsSettled l) (k : ℕ) (has : HasHistory l k) (pointer : ℕ) → Shows p l →
-    slice_get (p.channel k).submission.values 0 ≡ Some pointer → IsFront l has.history (queued_names has.history) pointer
+    slice_get (p.channel k).submission.values 0 ≡ Some pointer → IsFront l has.history (queued_names has.history)
+    pointer
 queue_front p l s k has pointer shows first =
     front_of l s k has.history (queued_names has.history) (p.channel k).submission.values pointer has.here
     (shows.channels k has.history has.here).queued first (queued_weighs has.history)

@@ -37,7 +37,8 @@ use Rattle.cal_transport.proofs.Seen.{LeadsTo, leads_to}
 use Rattle.cal_transport.proofs.ReceiveCode.{ReceiveCall, answer_below, registry_by}
 
 module _ (t : TransportState) (linked : IsLinked t) (k : ℕ) (inside : k < t.settings.channels) (pointer : ℕ)
-    (registry : Contents PortEntry) (receiver : ReceiverEnd) (call : ReceiveCall t k (Ok (Some pointer)) registry receiver)
+    (registry : Contents PortEntry) (receiver : ReceiverEnd) (call : ReceiveCall t k (Ok (Some pointer)) registry
+    receiver)
   where
     abbrev ch : ChannelEntry
     ch = channel_of t.connection_registry t.sender.handle k
@@ -62,7 +63,8 @@ module _ (t : TransportState) (linked : IsLinked t) (k : ℕ) (inside : k < t.se
 
     registry_is : registry ≡ with_channel_of t.connection_registry t.sender.handle k popped
     registry_is =
-        registry_by t linked k inside (settings_at t.connection_registry t.receiver.handle).max_borrowed_samples registry
+        registry_by t linked k inside (settings_at t.connection_registry t.receiver.handle).max_borrowed_samples
+        registry
         call.registry_is
         ∙ ap (λ b. with_channel_of t.connection_registry t.sender.handle k (cond b ch popped)) below.0
 
@@ -94,7 +96,8 @@ module _ (t : TransportState) (linked : IsLinked t) (k : ℕ) (inside : k < t.se
       front_active = shown_held t.memory_registry t.memory.slots (segment_of pointer) front_leads.points.segment
           front_leads.points.there
 
-      unborrowed : is_borrowed (has_history l (settled l r.place r.sound) k inside_l).history at_front.chunk.name ≡ false
+      unborrowed : is_borrowed (has_history l (settled l r.place r.sound) k inside_l).history at_front.chunk.name ≡
+          false
       unborrowed = is_borrowed_queued (has_history l (settled l r.place r.sound) k inside_l).history at_front.chunk.name
           at_front.rest
           (settled_l.orderly k (has_history l (settled l r.place r.sound) k inside_l).history
@@ -194,10 +197,12 @@ module _ (t : TransportState) (linked : IsLinked t) (k : ℕ) (inside : k < t.se
             opened_last = subst (λ n. view.current ≡ opened_after_arrival t.view.current (mapped_at t.view.slots) n)
                 segment_is arrives.opened;
             mapped = λ other. subst (λ n. mapped_at view.slots other
-                ≡ mapped_after_arrival t.view.current (mapped_at t.view.slots) n other) segment_is (arrives.mapped other);
+                ≡ mapped_after_arrival t.view.current (mapped_at t.view.slots) n other) segment_is (arrives.mapped
+                other);
             others = λ other apart. record {
               channel = ap (λ c. channel_of c t.sender.handle other) registry_is
-                  ∙ channel_else t.connection_registry t.sender.handle t.receiver.handle t.settings linked.ports k inside
+                  ∙ channel_else t.connection_registry t.sender.handle t.receiver.handle t.settings linked.ports k
+                  inside
                   popped refl other apart;
               borrowed = ap (λ (e : ReceiverEnd). count_at e other) receiver_is
                   ∙ count_else t.receiver k other (count_at t.receiver k + 1) apart;

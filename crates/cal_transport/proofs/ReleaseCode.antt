@@ -145,7 +145,8 @@ module _ (t : TransportState) (linked : IsLinked t) (k : ℕ) (inside : k < t.se
     of l r = found_chunk (core_of t) l name found (settled l r.place r.sound) r.shows is
 
     tells : (l : Ledger) (r : Represents t l) → is_lent ≡ is_borrowed (has l r).history name
-    tells l r = found_tells (core_of t) l (settled l r.place r.sound) r.shows r.tracks k (has l r).history (has l r).here
+    tells l r = found_tells (core_of t) l (settled l r.place r.sound) r.shows r.tracks k (has l r).history (has l
+        r).here
         name found.index found.entry (of l r)
 
     pub release_unlent_does : is_lent ≡ false →
@@ -205,7 +206,8 @@ module _ (t : TransportState) (linked : IsLinked t) (k : ℕ) (inside : k < t.se
           (transit_lives l k (has l r).history (of l r).chunk (has l r).here
           (borrowed_transits (has l r).history (of l r).chunk.name (at l r).borrowed)))
 
-      pub pointer_by : (pointer : ℕ) → ((p : HasPlace t.memory_registry t.memory found.entry.segment found.entry.bucket) →
+      pub pointer_by : (pointer : ℕ) → ((p : HasPlace t.memory_registry t.memory found.entry.segment
+          found.entry.bucket) →
           pointer ≡ pointer_offset (found.entry.bucket * p.segment.allocator.buckets.size) found.entry.segment) →
           (l : Ledger) (r : Represents t l) → pointer ≡ pointer_to l (of l r).chunk
       pointer_by pointer is l r = is (place l r).place ∙ (place l r).pointer_is
@@ -362,7 +364,8 @@ module _ (t : TransportState) (linked : IsLinked t) (k : ℕ) (inside : k < t.se
                 (pointer_to l (of l r).chunk)
             moves l r pointer_is =
                 let told = is_pointer l (settled l r.place r.sound) found.index (of l r).chunk (of l r).stands in
-                let segment_is : segment_of pointer ≡ (of l r).chunk.segment = ap segment_of pointer_is ∙ told.segment in
+                let segment_is : segment_of pointer ≡ (of l r).chunk.segment = ap segment_of pointer_is ∙
+                told.segment in
                 record {
                   settings = refl;
                   current = refl;
@@ -404,7 +407,8 @@ module _ (t : TransportState) (linked : IsLinked t) (k : ℕ) (inside : k < t.se
             released_does pointer_is place l r =
                 stands released l (command.Release k name) Released r.place place r.sound (placeless l Released)
                 (λ any. subst (λ n. Steps (core_of released) l any (command.Release k n) Released) (of l r).same_name
-                (releases (core_of t) (core_of released) l (settled l r.place r.sound) k (has l r).history (has l r).here
+                (releases (core_of t) (core_of released) l (settled l r.place r.sound) k (has l r).history (has l
+                r).here
                 (at l r) (moves l r (pointer_is l r)) r.shows r.tracks any (has l r).on
                 (may_release l k (of l r).chunk.name (has l r).history (inside_l l r) (has l r).on (at l r).borrowed
                 (few l r))))

@@ -20,7 +20,8 @@ use Rattle.cal_transport.proofs.Totals.{total_fewer}
 
 -- the ledger after a command doesn't depend on the command's place
 abbrev pub IsPlaceless : Ledger → Command → Reply → Type 0
-IsPlaceless l asked reply = (o : Option Refusal) (a b : ℕ) → after_step_by o l a asked reply ≡ after_step_by o l b asked reply
+IsPlaceless l asked reply = (o : Option Refusal) (a b : ℕ) → after_step_by o l a asked reply ≡ after_step_by o l b
+    asked reply
 
 pub stands : (new : TransportState) (l : Ledger) (asked : Command) (reply : Reply) (at place : ℕ) →
     IsSoundLedger l at → IsPlaceless l asked reply → ((any : ℕ) → Steps (core_of new) l any asked reply) →

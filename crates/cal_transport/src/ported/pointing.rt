@@ -74,8 +74,8 @@ pub(crate) fn unlend(lent: &mut Vec<UsedChunkList>, channel: usize, mark: usize)
     lent[channel].remove(mark);
 }
 
-/// Whether the chunk of an entry is lent out on a channel. The connection can name each chunk that is in transit; others
-/// aren't looked up.
+/// Whether the chunk of an entry is lent out on a channel. The connection can name each chunk that is in transit; the
+/// others aren't looked up.
 pub(crate) fn is_lent(
     lent: &[UsedChunkList],
     channel: usize,

@@ -27,13 +27,15 @@ call_at t n k same a b is registry receiver call =
 pub invariant_of-self : goal.invariant_of-self
 invariant_of-self c =
     let call = call_at (state_of c.self.inside) c.new.result
-    c.args.channel c.new.ensures.value c.receive-answer.result (Err c.in-Err.field-0) c.in-Err.is c.receive-answer.new.reg
+    c.args.channel c.new.ensures.value c.receive-answer.result (Err c.in-Err.field-0) c.in-Err.is
+    c.receive-answer.new.reg
     c.receive-answer.new.self (record {
       answer_is = c.receive-answer.ensures.answer;
       registry_is = c.receive-answer.ensures.received;
       receiver_is = c.receive-answer.ensures.port;
     }) in
-    let same = receive_limit_state (state_of c.self.inside) c.self.invariant.linked c.args.channel c.if-channel-self.false
+    let same = receive_limit_state (state_of c.self.inside) c.self.invariant.linked c.args.channel
+    c.if-channel-self.false
     c.receive-answer.new.reg c.receive-answer.new.self c.in-Err.field-0 call in
     record {
       ledger = c.self.invariant.ledger;
@@ -44,21 +46,25 @@ invariant_of-self c =
 pub returns-in-Err : goal.returns-in-Err
 returns-in-Err c =
     let call = call_at (state_of c.self.inside) c.new.result
-    c.args.channel c.new.ensures.value c.receive-answer.result (Err c.in-Err.field-0) c.in-Err.is c.receive-answer.new.reg
+    c.args.channel c.new.ensures.value c.receive-answer.result (Err c.in-Err.field-0) c.in-Err.is
+    c.receive-answer.new.reg
     c.receive-answer.new.self (record {
       answer_is = c.receive-answer.ensures.answer;
       registry_is = c.receive-answer.ensures.received;
       receiver_is = c.receive-answer.ensures.port;
     }) in
-    let same = receive_limit_state (state_of c.self.inside) c.self.invariant.linked c.args.channel c.if-channel-self.false
+    let same = receive_limit_state (state_of c.self.inside) c.self.invariant.linked c.args.channel
+    c.if-channel-self.false
     c.receive-answer.new.reg c.receive-answer.new.self c.in-Err.field-0 call in
     record {
-      step = subst (λ t. DoesAnywhere t (command.Receive c.args.channel) (Refused refusal.ReceiveWouldExceedMaxBorrowValue)
+      step = subst (λ t. DoesAnywhere t (command.Receive c.args.channel) (Refused
+          refusal.ReceiveWouldExceedMaxBorrowValue)
           (record (state_of c.self.inside) {
             connection_registry = c.receive-answer.new.reg;
             receiver = c.receive-answer.new.self;
           })) c.self.view_is
-          (subst (λ t. DoesAnywhere (state_of c.self.inside) (command.Receive c.args.channel) (Refused refusal.ReceiveWouldExceedMaxBorrowValue) t)
+          (subst (λ t. DoesAnywhere (state_of c.self.inside) (command.Receive c.args.channel) (Refused
+          refusal.ReceiveWouldExceedMaxBorrowValue) t)
           (sym same)
           (receive_limit_does (state_of c.self.inside) c.self.invariant.linked c.args.channel c.if-channel-self.false
           c.receive-answer.new.reg c.receive-answer.new.self c.in-Err.field-0 call));
@@ -67,13 +73,15 @@ returns-in-Err c =
 pub invariant_of-self-in-None : goal.invariant_of-self-in-None
 invariant_of-self-in-None c =
     let call = call_at (state_of c.self.inside) c.new.result
-    c.args.channel c.new.ensures.value c.receive-answer.result (Ok None) (c.in-Ok.is ∙ ap Ok c.in-None.is) c.receive-answer.new.reg
+    c.args.channel c.new.ensures.value c.receive-answer.result (Ok None) (c.in-Ok.is ∙ ap Ok c.in-None.is)
+    c.receive-answer.new.reg
     c.receive-answer.new.self (record {
       answer_is = c.receive-answer.ensures.answer;
       registry_is = c.receive-answer.ensures.received;
       receiver_is = c.receive-answer.ensures.port;
     }) in
-    let same = receive_none_state (state_of c.self.inside) c.self.invariant.linked c.args.channel c.if-channel-self.false
+    let same = receive_none_state (state_of c.self.inside) c.self.invariant.linked c.args.channel
+    c.if-channel-self.false
     c.receive-answer.new.reg c.receive-answer.new.self call in
     record {
       ledger = c.self.invariant.ledger;
@@ -84,13 +92,15 @@ invariant_of-self-in-None c =
 pub returns-in-None : goal.returns-in-None
 returns-in-None c =
     let call = call_at (state_of c.self.inside) c.new.result
-    c.args.channel c.new.ensures.value c.receive-answer.result (Ok None) (c.in-Ok.is ∙ ap Ok c.in-None.is) c.receive-answer.new.reg
+    c.args.channel c.new.ensures.value c.receive-answer.result (Ok None) (c.in-Ok.is ∙ ap Ok c.in-None.is)
+    c.receive-answer.new.reg
     c.receive-answer.new.self (record {
       answer_is = c.receive-answer.ensures.answer;
       registry_is = c.receive-answer.ensures.received;
       receiver_is = c.receive-answer.ensures.port;
     }) in
-    let same = receive_none_state (state_of c.self.inside) c.self.invariant.linked c.args.channel c.if-channel-self.false
+    let same = receive_none_state (state_of c.self.inside) c.self.invariant.linked c.args.channel
+    c.if-channel-self.false
     c.receive-answer.new.reg c.receive-answer.new.self call in
     record {
       step = subst (λ t. DoesAnywhere t (command.Receive c.args.channel) (Received None)
@@ -107,7 +117,8 @@ returns-in-None c =
 pub pointed_entry-found-requires-clause-points : goal.pointed_entry-found-requires-clause-points
 pointed_entry-found-requires-clause-points c =
     let call = call_at (state_of c.self.inside) c.new.result
-    c.args.channel c.new.ensures.value c.receive-answer.result (Ok (Some c.in-Some.pointer)) (c.in-Ok.is ∙ ap Ok c.in-Some.is) c.receive-answer.new.reg
+    c.args.channel c.new.ensures.value c.receive-answer.result (Ok (Some c.in-Some.pointer)) (c.in-Ok.is ∙ ap Ok
+    c.in-Some.is) c.receive-answer.new.reg
     c.receive-answer.new.self (record {
       answer_is = c.receive-answer.ensures.answer;
       registry_is = c.receive-answer.ensures.received;
@@ -117,25 +128,29 @@ pointed_entry-found-requires-clause-points c =
     (owners_of c.deref-2.result.now (segment_of c.in-Some.pointer)) c.in-Some.pointer) (sym c.deref.ensures.value)
     (subst (λ os. PointsTo c.self.inside.memory_registry c.self.inside.memory c.self.inside.entries.items
     (owners_of os (segment_of c.in-Some.pointer)) c.in-Some.pointer) (sym c.deref-2.ensures.value)
-    (front_leads (state_of c.self.inside) c.self.invariant.linked c.args.channel c.if-channel-self.false c.in-Some.pointer
+    (front_leads (state_of c.self.inside) c.self.invariant.linked c.args.channel c.if-channel-self.false
+    c.in-Some.pointer
     c.receive-answer.new.reg c.receive-answer.new.self call c.self.invariant.ledger c.self.invariant.represents).points)
 
 pub arrive-requires-clause-active : goal.arrive-requires-clause-active
 arrive-requires-clause-active c =
     let call = call_at (state_of c.self.inside) c.new.result
-    c.args.channel c.new.ensures.value c.receive-answer.result (Ok (Some c.in-Some.pointer)) (c.in-Ok.is ∙ ap Ok c.in-Some.is) c.receive-answer.new.reg
+    c.args.channel c.new.ensures.value c.receive-answer.result (Ok (Some c.in-Some.pointer)) (c.in-Ok.is ∙ ap Ok
+    c.in-Some.is) c.receive-answer.new.reg
     c.receive-answer.new.self (record {
       answer_is = c.receive-answer.ensures.answer;
       registry_is = c.receive-answer.ensures.received;
       receiver_is = c.receive-answer.ensures.port;
     }) in
-    front_active (state_of c.self.inside) c.self.invariant.linked c.args.channel c.if-channel-self.false c.in-Some.pointer
+    front_active (state_of c.self.inside) c.self.invariant.linked c.args.channel c.if-channel-self.false
+    c.in-Some.pointer
     c.receive-answer.new.reg c.receive-answer.new.self call c.self.invariant.ledger c.self.invariant.represents
 
 pub arrive-requires-clause-room : goal.arrive-requires-clause-room
 arrive-requires-clause-room c =
     let call = call_at (state_of c.self.inside) c.new.result
-    c.args.channel c.new.ensures.value c.receive-answer.result (Ok (Some c.in-Some.pointer)) (c.in-Ok.is ∙ ap Ok c.in-Some.is) c.receive-answer.new.reg
+    c.args.channel c.new.ensures.value c.receive-answer.result (Ok (Some c.in-Some.pointer)) (c.in-Ok.is ∙ ap Ok
+    c.in-Some.is) c.receive-answer.new.reg
     c.receive-answer.new.self (record {
       answer_is = c.receive-answer.ensures.answer;
       registry_is = c.receive-answer.ensures.received;
@@ -148,7 +163,8 @@ arrive-requires-clause-room c =
 pub mark_of-mark-requires : goal.mark_of-mark-requires
 mark_of-mark-requires c =
     let call = call_at (state_of c.self.inside) c.new.result
-    c.args.channel c.new.ensures.value c.receive-answer.result (Ok (Some c.in-Some.pointer)) (c.in-Ok.is ∙ ap Ok c.in-Some.is) c.receive-answer.new.reg
+    c.args.channel c.new.ensures.value c.receive-answer.result (Ok (Some c.in-Some.pointer)) (c.in-Ok.is ∙ ap Ok
+    c.in-Some.is) c.receive-answer.new.reg
     c.receive-answer.new.self (record {
       answer_is = c.receive-answer.ensures.answer;
       registry_is = c.receive-answer.ensures.received;
@@ -162,10 +178,12 @@ mark_of-mark-requires c =
     (owners_of c.deref-2.result.now (segment_of c.in-Some.pointer)) c.in-Some.pointer) →
     (c.pointed_entry-found.result.index ≡ p.index) × (c.pointed_entry-found.result.entry ≡ p.entry))
     c.deref.ensures.value c.pointed_entry-found.ensures.found) in
-    let entry = found_entry (state_of c.self.inside) c.self.invariant.linked c.args.channel c.if-channel-self.false c.in-Some.pointer
+    let entry = found_entry (state_of c.self.inside) c.self.invariant.linked c.args.channel c.if-channel-self.false
+    c.in-Some.pointer
     c.receive-answer.new.reg c.receive-answer.new.self call c.self.invariant.ledger c.self.invariant.represents
     c.pointed_entry-found.result.index c.pointed_entry-found.result.entry found in
-    let mark = entry_mark (state_of c.self.inside) c.self.invariant.linked c.args.channel c.if-channel-self.false c.in-Some.pointer
+    let mark = entry_mark (state_of c.self.inside) c.self.invariant.linked c.args.channel c.if-channel-self.false
+    c.in-Some.pointer
     c.receive-answer.new.reg c.receive-answer.new.self call c.self.invariant.ledger c.self.invariant.represents
     c.pointed_entry-found.result.entry entry in
     let most = c.self.invariant.linked.marks in
@@ -174,7 +192,8 @@ mark_of-mark-requires c =
 pub lend-requires-clause-mark : goal.lend-requires-clause-mark
 lend-requires-clause-mark c =
     let call = call_at (state_of c.self.inside) c.new.result
-    c.args.channel c.new.ensures.value c.receive-answer.result (Ok (Some c.in-Some.pointer)) (c.in-Ok.is ∙ ap Ok c.in-Some.is) c.receive-answer.new.reg
+    c.args.channel c.new.ensures.value c.receive-answer.result (Ok (Some c.in-Some.pointer)) (c.in-Ok.is ∙ ap Ok
+    c.in-Some.is) c.receive-answer.new.reg
     c.receive-answer.new.self (record {
       answer_is = c.receive-answer.ensures.answer;
       registry_is = c.receive-answer.ensures.received;
@@ -188,13 +207,16 @@ lend-requires-clause-mark c =
     (owners_of c.deref-2.result.now (segment_of c.in-Some.pointer)) c.in-Some.pointer) →
     (c.pointed_entry-found.result.index ≡ p.index) × (c.pointed_entry-found.result.entry ≡ p.entry))
     c.deref.ensures.value c.pointed_entry-found.ensures.found) in
-    let entry = found_entry (state_of c.self.inside) c.self.invariant.linked c.args.channel c.if-channel-self.false c.in-Some.pointer
+    let entry = found_entry (state_of c.self.inside) c.self.invariant.linked c.args.channel c.if-channel-self.false
+    c.in-Some.pointer
     c.receive-answer.new.reg c.receive-answer.new.self call c.self.invariant.ledger c.self.invariant.represents
     c.pointed_entry-found.result.index c.pointed_entry-found.result.entry found in
-    let mark = entry_mark (state_of c.self.inside) c.self.invariant.linked c.args.channel c.if-channel-self.false c.in-Some.pointer
+    let mark = entry_mark (state_of c.self.inside) c.self.invariant.linked c.args.channel c.if-channel-self.false
+    c.in-Some.pointer
     c.receive-answer.new.reg c.receive-answer.new.self call c.self.invariant.ledger c.self.invariant.represents
     c.pointed_entry-found.result.entry entry in
-    let capacity = front_capacity (state_of c.self.inside) c.self.invariant.linked c.args.channel c.if-channel-self.false c.in-Some.pointer
+    let capacity = front_capacity (state_of c.self.inside) c.self.invariant.linked c.args.channel
+    c.if-channel-self.false c.in-Some.pointer
     c.receive-answer.new.reg c.receive-answer.new.self call c.self.invariant.ledger c.self.invariant.represents in
     subst (λ n. n < capacity_of (get_or c.self.inside.lent.items c.args.channel (none_used 0)))
     (sym c.mark_of-mark.ensures.mark) (subst (λ n. c.pointed_entry-found.result.entry.segment
@@ -203,7 +225,8 @@ lend-requires-clause-mark c =
 pub invariant_of-self-2 : goal.invariant_of-self-2
 invariant_of-self-2 c =
     let call = call_at (state_of c.self.inside) c.new.result
-    c.args.channel c.new.ensures.value c.receive-answer.result (Ok (Some c.in-Some.pointer)) (c.in-Ok.is ∙ ap Ok c.in-Some.is) c.receive-answer.new.reg
+    c.args.channel c.new.ensures.value c.receive-answer.result (Ok (Some c.in-Some.pointer)) (c.in-Ok.is ∙ ap Ok
+    c.in-Some.is) c.receive-answer.new.reg
     c.receive-answer.new.self (record {
       answer_is = c.receive-answer.ensures.answer;
       registry_is = c.receive-answer.ensures.received;
@@ -223,7 +246,8 @@ invariant_of-self-2 c =
     c.pointed_entry-found.result.index c.pointed_entry-found.result.entry found in
     let lent = c.lend.ensures.lent ∙ ap (λ n. set c.self.inside.lent.items c.args.channel
     (after_insertion (get_or c.self.inside.lent.items c.args.channel (none_used 0)) n)) c.mark_of-mark.ensures.mark in
-    let does = received_does (state_of c.self.inside) c.self.invariant.linked c.args.channel c.if-channel-self.false c.in-Some.pointer
+    let does = received_does (state_of c.self.inside) c.self.invariant.linked c.args.channel c.if-channel-self.false
+    c.in-Some.pointer
     c.receive-answer.new.reg c.receive-answer.new.self call
     c.arrive.new.reg c.arrive.new.view c.arrive.ensures.arrived c.pointed_entry-found.result.entry c.lend.new.lent.items
     lent entries 0 c.self.invariant.ledger c.self.invariant.represents in
@@ -234,7 +258,8 @@ invariant_of-self-2 c =
         place = offset_of c.in-Some.pointer;
       })));
       represents = does.1;
-      linked = received_linked (state_of c.self.inside) c.self.invariant.linked c.args.channel c.if-channel-self.false c.in-Some.pointer
+      linked = received_linked (state_of c.self.inside) c.self.invariant.linked c.args.channel
+          c.if-channel-self.false c.in-Some.pointer
           c.receive-answer.new.reg c.receive-answer.new.self call
           c.arrive.new.reg c.arrive.new.view c.arrive.ensures.arrived c.pointed_entry-found.result.entry
           c.lend.new.lent.items lent;
@@ -243,7 +268,8 @@ invariant_of-self-2 c =
 pub returns : goal.returns
 returns c =
     let call = call_at (state_of c.self.inside) c.new.result
-    c.args.channel c.new.ensures.value c.receive-answer.result (Ok (Some c.in-Some.pointer)) (c.in-Ok.is ∙ ap Ok c.in-Some.is) c.receive-answer.new.reg
+    c.args.channel c.new.ensures.value c.receive-answer.result (Ok (Some c.in-Some.pointer)) (c.in-Ok.is ∙ ap Ok
+    c.in-Some.is) c.receive-answer.new.reg
     c.receive-answer.new.self (record {
       answer_is = c.receive-answer.ensures.answer;
       registry_is = c.receive-answer.ensures.received;
@@ -263,7 +289,8 @@ returns c =
     c.pointed_entry-found.result.index c.pointed_entry-found.result.entry found in
     let lent = c.lend.ensures.lent ∙ ap (λ n. set c.self.inside.lent.items c.args.channel
     (after_insertion (get_or c.self.inside.lent.items c.args.channel (none_used 0)) n)) c.mark_of-mark.ensures.mark in
-    let does = received_does (state_of c.self.inside) c.self.invariant.linked c.args.channel c.if-channel-self.false c.in-Some.pointer
+    let does = received_does (state_of c.self.inside) c.self.invariant.linked c.args.channel c.if-channel-self.false
+    c.in-Some.pointer
     c.receive-answer.new.reg c.receive-answer.new.self call
     c.arrive.new.reg c.arrive.new.view c.arrive.ensures.arrived c.pointed_entry-found.result.entry c.lend.new.lent.items
     lent entries in

@@ -32,7 +32,8 @@ pub returns-in-None : goal.returns-in-None
 returns-in-None c = record {
   step = subst (λ t. DoesAnywhere t (command.Release c.args.channel c.args.chunk) (Refused refusal.NotBorrowed) t)
       c.self.view_is
-      (release_unknown_does (state_of c.self.inside) c.self.invariant.linked c.args.channel c.if-channel-self.false c.args.chunk
+      (release_unknown_does (state_of c.self.inside) c.self.invariant.linked c.args.channel c.if-channel-self.false
+      c.args.chunk
       (subst (λ es. HasNoEntry es c.args.chunk) c.deref.ensures.value c.in-None.ensures.found));
 }
 
@@ -43,7 +44,8 @@ is_lent-requires-clause-mark c =
     + c.in-Some.found.entry.bucket < capacity_of (get_or us c.args.channel (none_used 0))) (sym c.deref-2.ensures.value)
     (λ some. subst (λ n. c.in-Some.found.entry.segment * c.self.inside.settings.samples
     + c.in-Some.found.entry.bucket < n)
-    (sym (marks_many (state_of c.self.inside) c.self.invariant.linked c.args.channel c.if-channel-self.false c.args.chunk
+    (sym (marks_many (state_of c.self.inside) c.self.invariant.linked c.args.channel c.if-channel-self.false
+    c.args.chunk
     c.in-Some.found is c.self.invariant.ledger c.self.invariant.represents))
     (transit_mark (state_of c.self.inside) c.self.invariant.linked c.args.channel c.if-channel-self.false c.args.chunk
     c.in-Some.found is c.self.invariant.ledger c.self.invariant.represents some))
@@ -51,7 +53,8 @@ is_lent-requires-clause-mark c =
 pub is_lent-requires-clause-small : goal.is_lent-requires-clause-small
 is_lent-requires-clause-small c =
     let is = subst (λ es. IsFound es c.args.chunk c.in-Some.found) c.deref.ensures.value c.in-Some.ensures.found in
-    let many = marks_many (state_of c.self.inside) c.self.invariant.linked c.args.channel c.if-channel-self.false c.args.chunk
+    let many = marks_many (state_of c.self.inside) c.self.invariant.linked c.args.channel c.if-channel-self.false
+    c.args.chunk
     c.in-Some.found is c.self.invariant.ledger c.self.invariant.represents in
     let few = c.self.invariant.linked.marks in
     subst (λ us. capacity_of (get_or us c.args.channel (none_used 0)) ≤ 9223372036854775808)
@@ -66,7 +69,8 @@ returns-then-not-is_lent c =
     record {
       step = subst (λ t. DoesAnywhere t (command.Release c.args.channel c.args.chunk) (Refused refusal.NotBorrowed) t)
           c.self.view_is
-          (release_unlent_does (state_of c.self.inside) c.self.invariant.linked c.args.channel c.if-channel-self.false c.args.chunk
+          (release_unlent_does (state_of c.self.inside) c.self.invariant.linked c.args.channel
+          c.if-channel-self.false c.args.chunk
           c.in-Some.found is
           (sym told ∙ c.if-not-is_lent.true));
     }
@@ -106,7 +110,8 @@ invariant_of-self c =
       registry_is = c.release-answer.ensures.released;
       receiver_is = c.release-answer.ensures.port;
     }) in
-    let same = release_full_state (state_of c.self.inside) c.self.invariant.linked c.args.channel c.if-channel-self.false c.args.chunk
+    let same = release_full_state (state_of c.self.inside) c.self.invariant.linked c.args.channel
+    c.if-channel-self.false c.args.chunk
     c.in-Some.found is lent
     c.pointer_at-pointer.result c.release-answer.new.reg c.release-answer.new.self c.in-Err.field-0 call in
     record {
@@ -129,7 +134,8 @@ returns-in-Err c =
       registry_is = c.release-answer.ensures.released;
       receiver_is = c.release-answer.ensures.port;
     }) in
-    let same = release_full_state (state_of c.self.inside) c.self.invariant.linked c.args.channel c.if-channel-self.false c.args.chunk
+    let same = release_full_state (state_of c.self.inside) c.self.invariant.linked c.args.channel
+    c.if-channel-self.false c.args.chunk
     c.in-Some.found is lent
     c.pointer_at-pointer.result c.release-answer.new.reg c.release-answer.new.self c.in-Err.field-0 call in
     record {
@@ -140,7 +146,8 @@ returns-in-Err c =
           })) c.self.view_is
           (subst (λ t. DoesAnywhere (state_of c.self.inside) (command.Release c.args.channel c.args.chunk)
           (Refused refusal.RetrieveBufferFull) t) (sym same)
-          (release_full_does (state_of c.self.inside) c.self.invariant.linked c.args.channel c.if-channel-self.false c.args.chunk
+          (release_full_does (state_of c.self.inside) c.self.invariant.linked c.args.channel c.if-channel-self.false
+          c.args.chunk
           c.in-Some.found is lent
           c.pointer_at-pointer.result c.release-answer.new.reg c.release-answer.new.self c.in-Err.field-0 call));
     }
@@ -152,7 +159,8 @@ go_back-requires-clause-registered c =
     && contains (get_or us c.args.channel (none_used 0)) (c.in-Some.found.entry.segment * c.self.inside.settings.samples
     + c.in-Some.found.entry.bucket))) c.deref-2.ensures.value c.is_lent.ensures.lent in
     let lent = sym told ∙ c.if-not-is_lent.false in
-    let pointer_is = pointer_by (state_of c.self.inside) c.self.invariant.linked c.args.channel c.if-channel-self.false c.args.chunk
+    let pointer_is = pointer_by (state_of c.self.inside) c.self.invariant.linked c.args.channel
+    c.if-channel-self.false c.args.chunk
     c.in-Some.found is lent
     c.pointer_at-pointer.result c.pointer_at-pointer.ensures.pointer in
     registered (state_of c.self.inside) c.self.invariant.linked c.args.channel c.if-channel-self.false c.args.chunk
@@ -166,7 +174,8 @@ mark_of-mark-requires c =
     && contains (get_or us c.args.channel (none_used 0)) (c.in-Some.found.entry.segment * c.self.inside.settings.samples
     + c.in-Some.found.entry.bucket))) c.deref-2.ensures.value c.is_lent.ensures.lent in
     let lent = sym told ∙ c.if-not-is_lent.false in
-    let mark = lent_mark (state_of c.self.inside) c.self.invariant.linked c.args.channel c.if-channel-self.false c.args.chunk
+    let mark = lent_mark (state_of c.self.inside) c.self.invariant.linked c.args.channel c.if-channel-self.false
+    c.args.chunk
     c.in-Some.found is lent c.self.invariant.ledger c.self.invariant.represents in
     let most = c.self.invariant.linked.marks in
     record { small = omega arith }
@@ -185,19 +194,23 @@ invariant_of-self-2 c =
       registry_is = c.release-answer.ensures.released;
       receiver_is = c.release-answer.ensures.port;
     }) in
-    let pointer_is = pointer_by (state_of c.self.inside) c.self.invariant.linked c.args.channel c.if-channel-self.false c.args.chunk
+    let pointer_is = pointer_by (state_of c.self.inside) c.self.invariant.linked c.args.channel
+    c.if-channel-self.false c.args.chunk
     c.in-Some.found is lent
     c.pointer_at-pointer.result c.pointer_at-pointer.ensures.pointer in
     let lent_is = c.unlend.ensures.lent ∙ ap (λ n. set c.self.inside.lent.items c.args.channel
     (after_removal (get_or c.self.inside.lent.items c.args.channel (none_used 0)) n)) c.mark_of-mark.ensures.mark in
-    let does = released_does (state_of c.self.inside) c.self.invariant.linked c.args.channel c.if-channel-self.false c.args.chunk
+    let does = released_does (state_of c.self.inside) c.self.invariant.linked c.args.channel c.if-channel-self.false
+    c.args.chunk
     c.in-Some.found is lent
     c.pointer_at-pointer.result c.release-answer.new.reg c.release-answer.new.self call c.go_back.new.reg
-    c.go_back.new.view c.go_back.ensures.gone c.unlend.new.lent.items lent_is pointer_is 0 c.self.invariant.ledger c.self.invariant.represents in
+    c.go_back.new.view c.go_back.ensures.gone c.unlend.new.lent.items lent_is pointer_is 0 c.self.invariant.ledger
+    c.self.invariant.represents in
     record {
       ledger = after_step c.self.invariant.ledger 0 (command.Release c.args.channel c.args.chunk) Released;
       represents = does.1;
-      linked = released_linked (state_of c.self.inside) c.self.invariant.linked c.args.channel c.if-channel-self.false c.args.chunk
+      linked = released_linked (state_of c.self.inside) c.self.invariant.linked c.args.channel
+          c.if-channel-self.false c.args.chunk
           c.in-Some.found is lent
           c.pointer_at-pointer.result c.release-answer.new.reg c.release-answer.new.self call
           c.go_back.new.reg c.go_back.new.view c.go_back.ensures.gone c.unlend.new.lent.items lent_is;
@@ -217,12 +230,14 @@ returns c =
       registry_is = c.release-answer.ensures.released;
       receiver_is = c.release-answer.ensures.port;
     }) in
-    let pointer_is = pointer_by (state_of c.self.inside) c.self.invariant.linked c.args.channel c.if-channel-self.false c.args.chunk
+    let pointer_is = pointer_by (state_of c.self.inside) c.self.invariant.linked c.args.channel
+    c.if-channel-self.false c.args.chunk
     c.in-Some.found is lent
     c.pointer_at-pointer.result c.pointer_at-pointer.ensures.pointer in
     let lent_is = c.unlend.ensures.lent ∙ ap (λ n. set c.self.inside.lent.items c.args.channel
     (after_removal (get_or c.self.inside.lent.items c.args.channel (none_used 0)) n)) c.mark_of-mark.ensures.mark in
-    let does = released_does (state_of c.self.inside) c.self.invariant.linked c.args.channel c.if-channel-self.false c.args.chunk
+    let does = released_does (state_of c.self.inside) c.self.invariant.linked c.args.channel c.if-channel-self.false
+    c.args.chunk
     c.in-Some.found is lent
     c.pointer_at-pointer.result c.release-answer.new.reg c.release-answer.new.self call c.go_back.new.reg
     c.go_back.new.view c.go_back.ensures.gone c.unlend.new.lent.items lent_is pointer_is in
