@@ -86,17 +86,14 @@ fn bump(alloc: Global) -> Result<BumpAllocator, Fail>
 #[test]
 fn offset_and_segment_are_one_number(rt: HostRuntime) {
     let pointer = PointerOffset::from_offset_and_segment_id(100, SegmentId::new(5));
-    assert_eq!(rt; pointer.as_value(), 25605);
+    assert!(rt; pointer.as_value() == 25605);
 }
 
 #[test]
 fn offsets_and_causes_are_printed(rt: HostRuntime) -> Result<(), Fail> {
     let pointer = PointerOffset::from_offset_and_segment_id(100, SegmentId::new(5));
     let text = format!(in rt.alloc(); "{pointer:?}")?;
-    assert_eq!(rt;
-        text.as_str(),
-        "PointerOffset { offset: 100, segment_id: SegmentId(5) }"
-    );
+    assert!(rt; text.as_str() == "PointerOffset { offset: 100, segment_id: SegmentId(5) }");
     for (cause, name) in [
         (
             ShmAllocationError::ExceedsMaxSupportedAlignment,
@@ -116,7 +113,7 @@ fn offsets_and_causes_are_printed(rt: HostRuntime) -> Result<(), Fail> {
         ),
     ] {
         let text = format!(in rt.alloc(); "{cause}")?;
-        assert_eq!(rt; text.as_str(), name);
+        assert!(rt; text.as_str() == name);
     }
     for (cause, name) in [
         (
@@ -129,29 +126,35 @@ fn offsets_and_causes_are_printed(rt: HostRuntime) -> Result<(), Fail> {
         ),
     ] {
         let text = format!(in rt.alloc(); "{cause}")?;
-        assert_eq!(rt; text.as_str(), name);
+        assert!(rt; text.as_str() == name);
     }
     let text = format!(in rt.alloc(); "{SizeOutOfRange}")?;
-    assert_eq!(rt; text.as_str(), "SizeOutOfRange");
+    assert!(rt; text.as_str() == "SizeOutOfRange");
     Ok(())
 }
 
 #[test]
 fn a_bump_allocator_goes_from_the_front_on(rt: HostRuntime) -> Result<(), Fail> {
     let mut bump = bump(rt.alloc())?;
-    assert_eq!(rt; bump.allocate(layout(3, 1)?)?, PointerOffset::new(0));
-    assert_eq!(rt; bump.allocate(layout(8, 8)?)?, PointerOffset::new(8));
-    assert_eq!(rt;
-        bump.allocate(layout(49, 1)?),
-        Err(ShmAllocationError::OutOfMemory)
+    assert!(rt; bump.allocate(layout(3, 1)?)? == PointerOffset::new(0));
+    assert!(rt; bump.allocate(layout(8, 8)?)? == PointerOffset::new(8));
+    assert!(rt;
+        matches!(
+            bump.allocate(layout(49, 1)?),
+            Err(ShmAllocationError::OutOfMemory)
+        )
     );
-    assert_eq!(rt;
-        bump.allocate(layout(0, 1)?),
-        Err(ShmAllocationError::SizeIsZero)
+    assert!(rt;
+        matches!(
+            bump.allocate(layout(0, 1)?),
+            Err(ShmAllocationError::SizeIsZero)
+        )
     );
-    assert_eq!(rt;
-        bump.allocate(layout(1, 16)?),
-        Err(ShmAllocationError::ExceedsMaxSupportedAlignment)
+    assert!(rt;
+        matches!(
+            bump.allocate(layout(1, 16)?),
+            Err(ShmAllocationError::ExceedsMaxSupportedAlignment)
+        )
     );
     for (size, strategy, payload_size) in [
         (48, AllocationStrategy::BestFit, 112),
@@ -177,9 +180,11 @@ fn a_full_pool_proposes_a_larger_one(rt: HostRuntime) -> Result<(), Fail> {
     'buckets: for _ in 0..4 {
         assert!(rt; pool.allocate(layout(1024, 8)?).is_ok());
     }
-    assert_eq!(rt;
-        pool.allocate(layout(1024, 8)?),
-        Err(ShmAllocationError::OutOfMemory)
+    assert!(rt;
+        matches!(
+            pool.allocate(layout(1024, 8)?),
+            Err(ShmAllocationError::OutOfMemory)
+        )
     );
     let asked = layout(1500, 16)?;
     for (strategy, size, alignment, payload_size) in [
@@ -268,14 +273,8 @@ fn hints_end_at_their_limits(rt: HostRuntime) -> Result<(), Fail> {
 fn a_pool_alone_gives_an_offset_again(rt: HostRuntime) -> Result<(), Fail> {
     let mut pool = pool(rt.alloc(), 24, layout(24, 8)?)?;
     let mut bump = bump(rt.alloc())?;
-    assert_eq!(rt;
-        offset_after_return(&mut pool, layout(24, 8)?),
-        Some(PointerOffset::new(0))
-    );
-    assert_eq!(rt;
-        offset_after_return(&mut bump, layout(24, 8)?),
-        Some(PointerOffset::new(24))
-    );
+    assert!(rt; offset_after_return(&mut pool, layout(24, 8)?) == Some(PointerOffset::new(0)));
+    assert!(rt; offset_after_return(&mut bump, layout(24, 8)?) == Some(PointerOffset::new(24)));
     Ok(())
 }
 
@@ -287,26 +286,26 @@ fn laws_hold_of_both_allocators(rt: HostRuntime) -> Result<(), Fail> {
     assert!(rt; two_chunks(&mut bump, layout(24, 8)?).is_some());
     let asked = layout(100, 4)?;
     let pointer = offset_after_growth(rt.alloc(), &pool, asked, AllocationStrategy::BestFit)?;
-    assert_eq!(rt; pointer, PointerOffset::new(0));
+    assert!(rt; pointer == PointerOffset::new(0));
     let pointer = offset_after_growth(rt.alloc(), &bump, asked, AllocationStrategy::PowerOfTwo)?;
-    assert_eq!(rt; pointer, PointerOffset::new(0));
+    assert!(rt; pointer == PointerOffset::new(0));
     Ok(())
 }
 
 #[test]
 fn kinds_and_defaults_are_as_named(rt: HostRuntime) -> Result<(), Fail> {
-    assert_eq!(rt; PoolAllocator::unique_id(), 0);
-    assert_eq!(rt; BumpAllocator::unique_id(), 1);
+    assert!(rt; PoolAllocator::unique_id() == 0);
+    assert!(rt; BumpAllocator::unique_id() == 1);
     assert!(rt; PoolAllocator::growth_raises_alignment());
     assert!(rt; !BumpAllocator::growth_raises_alignment());
-    assert_eq!(rt; AllocationStrategy::default(), AllocationStrategy::Static);
+    assert!(rt; matches!(AllocationStrategy::default(), AllocationStrategy::Static));
     let config = pool_allocator::Config::default();
-    assert_eq!(rt; config.bucket_layout, layout(1024, 8)?);
+    assert!(rt; config.bucket_layout == layout(1024, 8)?);
     assert!(rt; PoolAllocator::fits(5000, &config));
-    assert_eq!(rt; PoolAllocator::management_size(5000, &config), 4);
+    assert!(rt; PoolAllocator::management_size(5000, &config) == 4);
     let config = bump_allocator::Config::default();
     assert!(rt; BumpAllocator::fits(5000, &config));
-    assert_eq!(rt; BumpAllocator::management_size(5000, &config), 0);
+    assert!(rt; BumpAllocator::management_size(5000, &config) == 0);
     chunks_that_are_out_are_apart::<PoolAllocator>();
     chunks_that_are_out_are_apart::<BumpAllocator>();
     Ok(())
@@ -315,17 +314,17 @@ fn kinds_and_defaults_are_as_named(rt: HostRuntime) -> Result<(), Fail> {
 #[test]
 fn allocators_tell_of_their_memory(rt: HostRuntime) -> Result<(), Fail> {
     let mut pool = pool(rt.alloc(), 100, layout(20, 8)?)?;
-    assert_eq!(rt; pool.max_alignment(), 8);
-    assert_eq!(rt; pool.relative_start_address(), 0);
-    assert_eq!(rt; pool.bucket_size(), 24);
-    assert_eq!(rt; pool.number_of_buckets(), 4);
-    assert_eq!(rt; pool.number_of_used_buckets(), 0);
+    assert!(rt; pool.max_alignment() == 8);
+    assert!(rt; pool.relative_start_address() == 0);
+    assert!(rt; pool.bucket_size() == 24);
+    assert!(rt; pool.number_of_buckets() == 4);
+    assert!(rt; pool.number_of_used_buckets() == 0);
     assert!(rt; pool.allocate(layout(20, 8)?).is_ok());
-    assert_eq!(rt; pool.number_of_used_buckets(), 1);
+    assert!(rt; pool.number_of_used_buckets() == 1);
     let bump = bump(rt.alloc())?;
-    assert_eq!(rt; bump.max_alignment(), 8);
-    assert_eq!(rt; bump.relative_start_address(), 0);
-    assert_eq!(rt; bump.total_space(), 64);
+    assert!(rt; bump.max_alignment() == 8);
+    assert!(rt; bump.relative_start_address() == 0);
+    assert!(rt; bump.total_space() == 64);
     Ok(())
 }
 
@@ -333,10 +332,10 @@ fn allocators_tell_of_their_memory(rt: HostRuntime) -> Result<(), Fail> {
 fn a_segment_is_set_beside_its_offset(rt: HostRuntime) {
     let mut pointer = PointerOffset::from_offset_and_segment_id(100, SegmentId::new(5));
     pointer.set_segment_id(SegmentId::new(SegmentId::max_segment_id()));
-    assert_eq!(rt; SegmentId::max_segment_id(), 255);
-    assert_eq!(rt; pointer.segment_id().value(), 255);
-    assert_eq!(rt; pointer.offset(), 100);
-    assert_eq!(rt; pointer, PointerOffset::from_value(25855));
+    assert!(rt; SegmentId::max_segment_id() == 255);
+    assert!(rt; pointer.segment_id().value() == 255);
+    assert!(rt; pointer.offset() == 100);
+    assert!(rt; pointer == PointerOffset::from_value(25855));
 }
 
 #[test]
@@ -368,18 +367,18 @@ fn a_pool_that_is_not_full_keeps_its_count(rt: HostRuntime) -> Result<(), Fail> 
 #[test]
 fn each_bucket_of_a_pool_is_given_once(rt: HostRuntime) -> Result<(), Fail> {
     let mut pool = pool(rt.alloc(), 72, layout(24, 8)?)?;
-    assert_eq!(rt; pool.number_of_buckets(), 3);
-    assert_eq!(rt; pool.offset_of_bucket(2), PointerOffset::new(48));
+    assert!(rt; pool.number_of_buckets() == 3);
+    assert!(rt; pool.offset_of_bucket(2) == PointerOffset::new(48));
     let asked = layout(24, 8)?;
     let first = pool.allocate(asked)?;
     let second = pool.allocate(asked)?;
     let third = pool.allocate(asked)?;
-    assert_eq!(rt; pool.bucket_of(first) * 24, first.offset());
+    assert!(rt; pool.bucket_of(first) * 24 == first.offset());
     let buckets = [first, second, third].map(|pointer| pointer.offset() / 24);
     for bucket in 0..3 {
         assert!(rt; buckets.contains(&bucket), "{bucket}");
     }
-    assert_eq!(rt; pool.allocate(asked), Err(ShmAllocationError::OutOfMemory));
+    assert!(rt; matches!(pool.allocate(asked), Err(ShmAllocationError::OutOfMemory)));
     Ok(())
 }
 
@@ -394,7 +393,7 @@ fn many_buckets_cost_nothing_until_they_are_used(rt: HostRuntime) -> Result<(), 
     // Either the words' room is there, or there is an answer for it.
     match pool.init(rt.alloc()) {
         Ok(()) => assert!(rt; pool.allocate(layout(1, 1)?).is_ok()),
-        Err(error) => assert_eq!(rt; error, ShmAllocatorInitError::AllocationFailed),
+        Err(error) => assert!(rt; matches!(error, ShmAllocatorInitError::AllocationFailed)),
     }
     Ok(())
 }

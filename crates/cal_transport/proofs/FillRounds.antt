@@ -19,16 +19,16 @@ use Rattle.cal_transport.specs.Cause.{cause, current_segment, is_full}
 use Rattle.cal_transport.specs.Step.{IsLoan, after_loan, grown_ledger, new_chunk, slot_of}
 use Rattle.cal_transport.specs.Run.{IsRun, transit_at, transit_on, transit_list}
 use Rattle.cal_transport.specs.Parts.{weight}
-use Rattle.cal_transport.specs.FillList.{names_from, IsServed, AreServed, AreFilled, fill_list, send_and_receive, send_and_leave, release_and_receive}
+use Rattle.cal_transport.specs.FillList.{names_from, IsServed, AreServed, AreFilled, completed_after, fill_list, send_and_receive, send_and_leave, release_and_receive}
 use Rattle.cal_transport.proofs.Opening.{can_make}
 use Rattle.cal_transport.proofs.Lists.{old_or_new}
 use Rattle.cal_transport.proofs.Names.{is_in_transit-weight}
 use Rattle.cal_transport.proofs.Growing.{static_serves}
 use Rattle.cal_transport.proofs.Lending.{free_parts}
 use Rattle.cal_transport.proofs.Sound.{first_sizes}
-use Rattle.cal_transport.proofs.Numbers.{counted, occurrences-within}
+use Rattle.cal_transport.proofs.Numbers.{counted, counted-completed_length, occurrences-within}
 use Rattle.cal_transport.proofs.Pigeons.{by_bucket, counted_by_bucket, all_pass, passes_below, few_taken}
-use Rattle.cal_transport.proofs.Filling.{Ends, goes_on, FillSettings, AreFillChunks, filled, no_cause, sends_on, receives_on, releases_on, reclaims_on}
+use Rattle.cal_transport.proofs.Filling.{Ends, goes_on, completed_count, after_none, FillSettings, AreFillChunks, filled, no_cause, sends_on, receives_on, releases_on, reclaims_on}
 
 -- ---- a free bucket
 
@@ -402,13 +402,19 @@ fill_settings s buffer borrow h =
     }
 
 pub fill_served : (s : Settings) (buffer borrow : ℕ) (replies : List Reply) → AreFilled s buffer borrow →
-    IsRun s (fill_list buffer borrow) replies → AreServed (buffer + borrow + 1) (fill_list buffer borrow) replies
+    IsRun s (fill_list buffer borrow) replies →
+    AreServed (buffer + borrow + 1) (fill_list buffer borrow) replies ×
+    (completed_after s (fill_list buffer borrow) replies ≡ buffer + borrow + 1)
 fill_served s buffer borrow replies h =
     let channels : (clamped_settings s).channels ≡ 1 = let c = h.one_channel in omega arith in
     let is : first_ledger s ≡ filled (clamped_settings s) (first_layout s) [] None (counted 0 0 0) =
     ap (λ n. record (first_ledger s) { histories = replicate n new_history }) channels in
     let ends = all_rounds (clamped_settings s) (first_layout s) buffer borrow (fill_settings s buffer borrow h)
     h.some_buffer h.some_borrow (buffer + borrow + 1)
-    (λ place chunks opened good replies run. ap length run
-    ∙ all_in_transit (clamped_settings s) (first_layout s) chunks opened (buffer + borrow + 1) good) in
+    (λ place chunks opened good replies run. (
+      ap length run ∙ all_in_transit (clamped_settings s) (first_layout s) chunks opened (buffer + borrow + 1) good,
+      ap completed_count (after_none (filled (clamped_settings s) (first_layout s) chunks opened
+          (counted (buffer + borrow + 1) (buffer + borrow + 1) (buffer + borrow + 1))) place replies)
+          ∙ counted-completed_length (buffer + borrow + 1) (buffer + borrow + 1) (buffer + borrow + 1),
+    )) in
     (subst (λ l. Ends (buffer + borrow + 1) l 1 (fill_list buffer borrow)) (sym is) ends) replies

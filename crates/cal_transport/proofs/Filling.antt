@@ -12,11 +12,11 @@ use Rattle.cal_transport.specs.declared.reply.Reply.{Reply}
 use Rattle.cal_transport.specs.declared.reply.Refusal.{Refusal}
 use Rattle.cal_transport.specs.declared.reply.Refusal.TheVariants as refusal
 use Rattle.cal_transport.specs.Settings.{completion_size}
-use Rattle.cal_transport.specs.Ledger.{Ledger, Chunk, ChannelHistory, loaned_chunk, if_loaned, queued_names, completed_names, is_borrowed, borrow_count, is_in_transit}
+use Rattle.cal_transport.specs.Ledger.{Ledger, Chunk, ChannelHistory, loaned_chunk, if_loaned, queued_names, completed_names, is_borrowed, borrow_count, is_in_transit, history_on}
 use Rattle.cal_transport.specs.LoanCause.{is_static}
 use Rattle.cal_transport.specs.Cause.{cause, send_cause, is_bucket_outside, is_buffer_full}
 use Rattle.cal_transport.specs.Step.{IsStepBy, Owes, after_step_by, after_command, front, name_sent_back, history_after_send, history_after_receive, with_changed_chunk}
-use Rattle.cal_transport.specs.Run.{AreStepsAndTransit}
+use Rattle.cal_transport.specs.Run.{AreStepsAndTransit, after_steps}
 use Rattle.cal_transport.specs.Parts.{weight}
 use Rattle.cal_transport.specs.FillList.{names_from, IsServed, AreServed}
 use Rattle.cal_transport.proofs.Names.{is_in_transit-weight}
@@ -27,10 +27,19 @@ use Rattle.cal_transport.proofs.Numbers.{counted, counted-queued, counted-queue_
 
 -- ---- one command, and the rest
 
--- whatever the replies to these commands, each is served, and so many chunks are in transit then
+-- how many chunks are completed on channel 0
+abbrev pub completed_count : Ledger → ℕ
+completed_count l = length (completed_names (history_on l 0))
+
+-- whatever the replies to these commands, each is served, and so many chunks are in transit and completed then
 abbrev pub Ends : ℕ → Ledger → ℕ → List Command → Type 0
 Ends last l place commands = (replies : List Reply) → AreStepsAndTransit l place commands replies →
-    AreServed last commands replies
+    AreServed last commands replies × (completed_count (after_steps l place commands replies) ≡ last)
+
+-- where no command is left the ledger stays
+pub after_none : (l : Ledger) (place : ℕ) (replies : List Reply) → after_steps l place [] replies ≡ l
+after_none l place [] = refl
+after_none l place (reply ∷ replies) = refl
 
 pub goes_on : (last : ℕ) (l : Ledger) (place : ℕ) (asked : Command) (commands : List Command) →
     cause l asked ≡ None →
@@ -39,12 +48,10 @@ pub goes_on : (last : ℕ) (l : Ledger) (place : ℕ) (asked : Command) (command
     Ends last l place (asked ∷ commands)
 goes_on last l place asked commands none go [] run = absurd run
 goes_on last l place asked commands none go (reply ∷ replies) run =
-    let next = go reply (subst (λ o. IsStepBy o l place asked reply) none run.0) in (
-      next.0,
-      next.1 replies
-          (subst (λ o. AreStepsAndTransit (after_step_by o l place asked reply) (place + 1) commands replies) none
-          run.1),
-    )
+    let next = go reply (subst (λ o. IsStepBy o l place asked reply) none run.0) in
+    let rest = (subst (λ o. Ends last (after_step_by o l place asked reply) (place + 1) commands) (sym none) next.1)
+    replies run.1 in
+    ((next.0, rest.0), rest.1)
 
 -- ---- the ledger along the list
 

@@ -71,6 +71,7 @@ pub record Follows (l l' : Ledger) (asked : Command) (reply : Reply) : Type 0 wh
   pub channels : length l'.histories ≡ length l.histories
   pub moves : (k : ℕ) (c : ChannelHistory) → slice_get l.histories k ≡ Some c → MovedTo l l' k asked reply c
   pub marks : (k name : ℕ) → WasSent l k asked name → IsSentChunk l' name
+  pub opened : (segment : ℕ) → l'.opened_last ≡ Some segment → segment < length l.segments
 
 -- a channel of the later ledger, and what it was
 pub record MovedFrom (l : Ledger) (l' : Ledger) (k : ℕ) (asked : Command) (reply : Reply) (new : ChannelHistory) : Type
@@ -240,4 +241,5 @@ sound_then l l' place asked reply sound f = record {
   channels = f.channels ∙ sound.channels ∙ sym (ap (λ s. s.channels) f.settings);
   histories = λ k c stands. history_then l l' place asked reply k c sound f stands;
   known = λ k c name stands some. known_then l l' place asked reply k c name sound f stands some;
+  opened = λ segment is. (let p = ap length f.segments in let q = f.opened segment is in omega arith);
 }

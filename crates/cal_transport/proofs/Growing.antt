@@ -241,6 +241,7 @@ sound_with_segment l place next sound sizes room = record {
   channels = sound.channels;
   histories = sound.histories;
   known = λ k c name here some. kept name (sound.known k c name here some);
+  opened = λ segment is. (let q = sound.opened segment is in omega (arith, length-append l.segments (next ∷ [])));
 }
   where
     kept : (name : ℕ) → IsSentChunk l name → IsSentChunk (with_segment l next) name

@@ -122,6 +122,7 @@ module _ (l : Ledger) (place : ℕ) (bucket : ℕ) (sound : IsSoundLedger l plac
     channels = sound.channels;
     histories = sound.histories;
     known = λ k c name here some. lent_known name (sound.known k c name here some);
+    opened = sound.opened;
   }
 
 -- what a free place is

@@ -1,5 +1,5 @@
 -- Every ledger that a run reaches is sound: the first one is, and each step keeps it.
-use Rattle.std.proofs.Common.{ℕ, zero, suc, ◌+◌, ◌≤◌, ◌≡◌, inl, inr, true, false, cond, nat_eq, List, [], ◌∷◌, length, map, replicate, Option, Some, None, option_map, refl, sym, ap, ◌∙◌, subst, arith, length-append, length-drop}
+use Rattle.std.proofs.Common.{ℕ, zero, suc, ◌+◌, ◌<◌, ◌≤◌, ◌≡◌, inl, inr, Bool, true, false, cond, nat_eq, List, [], ◌∷◌, length, map, replicate, Option, Some, None, option_map, refl, sym, ap, ◌∙◌, subst, arith, length-append, length-drop}
 use Rattle.std.specs.List.{slice_get}
 use Rattle.std.proofs.lemmas.Bool.{true≢false, ltb-false, cond-true, eq-eqb}
 use Rattle.std.proofs.lemmas.Bool.Decides.{eqb_tells}
@@ -13,13 +13,14 @@ use Rattle.cal_transport.specs.declared.reply.Reply.{Reply}
 use Rattle.cal_transport.specs.declared.reply.Refusal.{Refusal}
 use Rattle.cal_transport.specs.declared.reply.Refusal.TheVariants as refusal
 use Rattle.cal_transport.specs.Settings.{clamped_settings, create_cause, first_layout}
-use Rattle.cal_transport.specs.Ledger.{Ledger, Chunk, ChannelHistory, new_history, first_ledger, history_on, loaned_chunk, layout_at, queued_names, completed_names}
+use Rattle.cal_transport.specs.Ledger.{Ledger, Chunk, ChannelHistory, new_history, first_ledger, history_on, chunk_named, loaned_chunk, layout_at, is_mapped, queued_names, completed_names}
 use Rattle.cal_transport.specs.Cause.{cause, write_cause, exceeds_bucket}
-use Rattle.cal_transport.specs.Step.{IsStep, IsStepBy, Owes, after_step, after_step_by, after_command, front, name_sent_back, history_after_send, history_after_receive, history_after_release, history_after_reclaim, with_bytes, with_changed_chunk, grown_ledger}
+use Rattle.cal_transport.specs.Step.{IsStep, IsStepBy, Owes, after_step, after_step_by, after_command, front, name_sent_back, history_after_send, history_after_receive, history_after_release, history_after_reclaim, with_bytes, with_changed_chunk, grown_ledger, opened_after_receive, chunk_to_receive}
 use Rattle.cal_transport.specs.Run.{AreSteps, after_steps}
 use Rattle.cal_transport.specs.Parts.{weight}
 use Rattle.cal_transport.specs.Soundness.{HasSizes, IsSoundHistory, IsSentChunk, IsSoundLedger}
 use Rattle.cal_transport.proofs.Opening.{can_make}
+use Rattle.cal_transport.proofs.Steps.{find_stands}
 use Rattle.cal_transport.proofs.Chunks.{same_place, loaned_stands}
 use Rattle.cal_transport.proofs.Moving.{first_no, done_moves}
 use Rattle.cal_transport.proofs.Moved.{WasSent}
@@ -176,6 +177,24 @@ sent_marked l after k channel name other settings made sent =
       bucket = omega arith;
     }
 
+-- the segment that a receive opens is one of the memory's
+opened_received : (l : Ledger) (place : ℕ) (taken : Option ℕ) (segment : ℕ) → IsSoundLedger l place →
+    opened_after_receive l (chunk_to_receive l taken) ≡ Some segment → segment < length l.segments
+opened_received l place None segment sound is = sound.opened segment is
+opened_received l place (Some name) segment sound is = from (chunk_named l name) refl is
+  where
+    either : (chunk : Chunk) (b : Bool) → chunk_named l name ≡ Some chunk →
+        cond b l.opened_last (Some chunk.segment) ≡ Some segment → segment < length l.segments
+    either chunk true found e = sound.opened segment e
+    either chunk false found e =
+        let s = find_stands l.chunks name chunk found in
+        subst (λ n. n < length l.segments) (same_Some chunk.segment segment e) (sound.within s.0 chunk s.1).segment
+
+    from : (found : Option Chunk) → chunk_named l name ≡ found → opened_after_receive l found ≡ Some segment →
+        segment < length l.segments
+    from None found e = sound.opened segment e
+    from (Some chunk) found e = either chunk (is_mapped l chunk.segment) found e
+
 -- ---- each command
 
 -- what is to be shown of a command without a cause
@@ -191,8 +210,9 @@ kept_sound : (l : Ledger) (place : ℕ) (asked : Command) (reply : Reply) → Is
     KeepChunks l.chunks (after_command l place asked reply).chunks →
     length (after_command l place asked reply).histories ≡ length l.histories →
     ((k name : ℕ) → WasSent l k asked name → IsSentChunk (after_command l place asked reply) name) →
+    ((segment : ℕ) → (after_command l place asked reply).opened_last ≡ Some segment → segment < length l.segments) →
     IsSoundLedger (after_command l place asked reply) (place + 1)
-kept_sound l place asked reply sound none owes settings segments chunks channels marks =
+kept_sound l place asked reply sound none owes settings segments chunks channels marks opened =
     sound_then l (after_command l place asked reply) place asked reply sound (record {
       settings = settings;
       segments = segments;
@@ -200,6 +220,7 @@ kept_sound l place asked reply sound none owes settings segments chunks channels
       channels = channels;
       moves = λ k c here. done_moves l place reply k c sound here asked none owes;
       marks = marks;
+      opened = opened;
     })
 
 done_sound : (l : Ledger) (place : ℕ) (reply : Reply) → IsSoundLedger l place → (asked : Command) →
@@ -210,38 +231,39 @@ done_sound l place reply sound (command.Write name at bytes) none owes =
     kept_sound l place (command.Write name at bytes) reply sound none owes refl refl
     (changed_chunks l.chunks name (λ c. record c { bytes = with_bytes c.bytes at bytes })
     (λ i c stands named. keeps_written c at bytes (may_write l place name at bytes i c sound none stands named)))
-    refl (λ k other sent. absurd (let e = sent.asked_is in cc))
+    refl (λ k other sent. absurd (let e = sent.asked_is in cc)) sound.opened
 done_sound l place reply sound (command.Send channel name) none owes =
     let history = history_on l channel in
     kept_sound l place (command.Send channel name) reply sound none owes refl refl
     (changed_chunks l.chunks name marked_sent (λ i c stands named. keeps_sent c))
     (length-set l.histories channel (history_after_send history name (name_sent_back l history)))
     (λ k other sent. sent_marked l (after_command l place (command.Send channel name) reply) k channel name other refl
-    refl sent)
+    refl sent) sound.opened
 done_sound l place reply sound (command.Receive channel) none owes =
     let history = history_on l channel in
     kept_sound l place (command.Receive channel) reply sound none owes refl refl (same_chunks l.chunks)
     (length-set l.histories channel (history_after_receive history (front (queued_names history))))
     (λ k other sent. absurd (let e = sent.asked_is in cc))
+    (λ segment is. opened_received l place (front (queued_names history)) segment sound is)
 done_sound l place reply sound (command.Read channel name at len) none owes =
     kept_sound l place (command.Read channel name at len) reply sound none owes refl refl (same_chunks l.chunks) refl
-    (λ k other sent. absurd (let e = sent.asked_is in cc))
+    (λ k other sent. absurd (let e = sent.asked_is in cc)) sound.opened
 done_sound l place reply sound (command.Release channel name) none owes =
     kept_sound l place (command.Release channel name) reply sound none owes refl refl (same_chunks l.chunks)
     (length-set l.histories channel (history_after_release (history_on l channel) name))
-    (λ k other sent. absurd (let e = sent.asked_is in cc))
+    (λ k other sent. absurd (let e = sent.asked_is in cc)) sound.opened
 done_sound l place reply sound (command.Reclaim channel) none owes =
     let history = history_on l channel in
     kept_sound l place (command.Reclaim channel) reply sound none owes refl refl (same_chunks l.chunks)
     (length-set l.histories channel (history_after_reclaim history (front (completed_names history))))
-    (λ k other sent. absurd (let e = sent.asked_is in cc))
+    (λ k other sent. absurd (let e = sent.asked_is in cc)) sound.opened
 done_sound l place reply sound (command.Discard name) none owes =
     kept_sound l place (command.Discard name) reply sound none owes refl refl
     (changed_chunks l.chunks name (λ c. record c { loaned = false }) (λ i c stands named. keeps_discarded c)) refl
-    (λ k other sent. absurd (let e = sent.asked_is in cc))
+    (λ k other sent. absurd (let e = sent.asked_is in cc)) sound.opened
 done_sound l place reply sound command.Count none owes =
     kept_sound l place command.Count reply sound none owes refl refl (same_chunks l.chunks) refl
-    (λ k other sent. absurd (let e = sent.asked_is in cc))
+    (λ k other sent. absurd (let e = sent.asked_is in cc)) sound.opened
 
 -- ---- every step
 
@@ -259,6 +281,7 @@ refused_sound l place sound = record {
   channels = sound.channels;
   histories = sound.histories;
   known = sound.known;
+  opened = sound.opened;
 }
 
 pub sound_step : (l : Ledger) (place : ℕ) (asked : Command) (reply : Reply) → IsSoundLedger l place →
@@ -344,6 +367,7 @@ sound_first s none = record {
       (sym (all_new (clamped_settings s).channels k c stands)) (new_sound (clamped_settings s));
   known = λ k c name stands some. absurd (
       let e = ap (λ h. weight h name) (all_new (clamped_settings s).channels k c stands) in omega arith);
+  opened = λ segment is. absurd (none-some segment is);
 }
 
 pub sound_run : (s : Settings) (commands : List Command) (replies : List Reply) → create_cause s ≡ None →

@@ -8,6 +8,8 @@ use Rattle.cal_transport.specs.declared.reply.Reply.{Reply}
 use Rattle.cal_transport.specs.declared.reply.Reply.TheVariants.{Reclaimed, Refused}
 use Rattle.cal_transport.specs.declared.reply.Refusal.{Refusal}
 use Rattle.cal_transport.specs.Settings.{create_cause}
+use Rattle.cal_transport.specs.Ledger.{first_ledger, history_on, completed_names}
+use Rattle.cal_transport.specs.Run.{after_steps}
 use Rattle.cal_transport.specs.LoanCause.{is_static}
 
 -- ---- the commands
@@ -56,6 +58,11 @@ pub record AreFilled (s : Settings) (buffer borrow : ℕ) : Type 0 where
 pub record IsServed (asked : Command) (reply : Reply) : Type 0 where
   pub accepted : (why : Refusal) → reply ≢ Refused why
   pub nothing_back : asked ≡ Reclaim 0 → reply ≡ Reclaimed None
+
+-- how many chunks are completed on channel 0 after these answers
+abbrev pub completed_after : Settings → List Command → List Reply → ℕ
+completed_after s commands replies =
+    length (completed_names (history_on (after_steps (first_ledger s) 1 commands replies) 0))
 
 -- each command is served, and so many replies follow
 abbrev pub AreServed : ℕ → List Command → List Reply → Type 0

@@ -98,3 +98,5 @@ pub record IsSoundLedger (l : Ledger) (place : ℕ) : Type 0 where
   pub histories : (k : ℕ) (c : ChannelHistory) → slice_get l.histories k ≡ Some c → IsSoundHistory l.settings c
   pub known : (k : ℕ) (c : ChannelHistory) (name : ℕ) → slice_get l.histories k ≡ Some c → 0 < weight c name →
       IsSentChunk l name
+  -- the segment that the view opened last is one of the memory's
+  pub opened : (segment : ℕ) → l.opened_last ≡ Some segment → segment < length l.segments

@@ -17,7 +17,7 @@ ghost use Rattle.cal_transport.specs.Soundness.{IsSoundLedger, IsInOrder, IsWith
 ghost use Rattle.cal_transport.specs.Told.{told_history};
 ghost use Rattle.cal_transport.specs.ChunkLaws.{HasNoLiveChunk, IsReadAfterSend};
 ghost use Rattle.cal_transport.specs.Capacity.{HasCapacity};
-ghost use Rattle.cal_transport.specs.FillList.{AreFilled, AreServed, fill_list};
+ghost use Rattle.cal_transport.specs.FillList.{AreFilled, AreServed, completed_after, fill_list};
 
 /// The ledger of a new transport is sound, and each step keeps it so. So is the ledger after any commands.
 pub fn the_ledger_stays_sound()
@@ -77,10 +77,13 @@ pub fn a_completion_queue_has_room()
 {}
 
 /// No smaller completion queue serves: the commands of the fill list are served, each reclaim with none, over memory of
-/// at least as many buckets as chunks, and then buffer plus borrow limit plus one chunks are in transit. Each was
-/// released by then, and no reclaim gave one back.
+/// at least as many buckets as chunks, and then buffer plus borrow limit plus one chunks are completed at once, and in
+/// transit.
 pub fn a_completion_queue_fills_up()
     ensures served { (settings : Settings) (buffer borrow : ℕ) (replies : List Reply) →
         AreFilled settings buffer borrow → IsRun settings (fill_list buffer borrow) replies →
         AreServed (buffer + borrow + 1) (fill_list buffer borrow) replies }
+    ensures completed { (settings : Settings) (buffer borrow : ℕ) (replies : List Reply) →
+        AreFilled settings buffer borrow → IsRun settings (fill_list buffer borrow) replies →
+        completed_after settings (fill_list buffer borrow) replies ≡ buffer + borrow + 1 }
 {}

@@ -4,7 +4,7 @@ ghost use Rattle.std.specs.Prelude.{ℕ, ◌≡◌, ◌≢◌, ◌+◌, ◌<◌,
 ghost use Rattle.cal_transport.specs.Settings.{create_cause};
 ghost use Rattle.cal_transport.specs.Built.{is_built};
 ghost use Rattle.cal_transport.specs.Capacity.{HasCapacity};
-ghost use Rattle.cal_transport.specs.FillList.{AreFilled, AreServed, fill_list};
+ghost use Rattle.cal_transport.specs.FillList.{AreFilled, AreServed, completed_after, fill_list};
 ghost use Rattle.cal_transport.specs.ChunkRecord.{AreBelow};
 ghost use Rattle.cal_transport.specs.Rules.{DoesAnywhere};
 ghost use Rattle.cal_transport.specs.Serve.{NotServed, reply_to};
@@ -62,6 +62,9 @@ pub fn run_transport(
     ensures capacity { IfOk result (λ replies. HasCapacity commands.now replies.items) }
     ensures filled { IfOk result (λ replies. (buffer borrow : ℕ) → AreFilled settings.now buffer borrow →
         commands.now ≡ fill_list buffer borrow → AreServed (buffer + borrow + 1) commands.now replies.items) }
+    ensures completed { IfOk result (λ replies. (buffer borrow : ℕ) → AreFilled settings.now buffer borrow →
+        commands.now ≡ fill_list buffer borrow →
+        completed_after settings.now commands.now replies.items ≡ buffer + borrow + 1) }
 {
     if let Some(cause) = settings.create_cause() {
         return Err(RunError::Create(cause));

@@ -17,9 +17,9 @@ fn chunks_come_from_the_front<M: SharedMemory<BumpAllocator>>(
     let memory = create::<BumpAllocator, M>(alloc, &mut reg, &my_name()?, 64, &Config {})?;
     let first = memory.allocate(&mut reg, layout(3, 1)?)?;
     let second = memory.allocate(&mut reg, layout(8, 8)?)?;
-    assert_eq!(rt; first.offset.offset(), 0);
-    assert_eq!(rt; second.offset.offset(), 8);
-    assert_eq!(rt; memory.allocator(&reg).total_space(), 64);
+    assert!(rt; first.offset.offset() == 0);
+    assert!(rt; second.offset.offset() == 8);
+    assert!(rt; memory.allocator(&reg).total_space() == 64);
     Ok(())
 }
 
@@ -31,13 +31,15 @@ fn chunks_are_refused<M: SharedMemory<BumpAllocator>>(
     let mut reg = Registry::new(alloc);
     let memory = create::<BumpAllocator, M>(alloc, &mut reg, &my_name()?, 64, &Config {})?;
     let too_many = memory.allocate(&mut reg, layout(65, 1)?);
-    assert_eq!(rt; too_many.err(), Some(ShmAllocationError::OutOfMemory));
+    assert!(rt; matches!(too_many.err(), Some(ShmAllocationError::OutOfMemory)));
     let none = memory.allocate(&mut reg, layout(0, 1)?);
-    assert_eq!(rt; none.err(), Some(ShmAllocationError::SizeIsZero));
+    assert!(rt; matches!(none.err(), Some(ShmAllocationError::SizeIsZero)));
     let aligned = memory.allocate(&mut reg, layout(1, 16)?);
-    assert_eq!(rt;
-        aligned.err(),
-        Some(ShmAllocationError::ExceedsMaxSupportedAlignment)
+    assert!(rt;
+        matches!(
+            aligned.err(),
+            Some(ShmAllocationError::ExceedsMaxSupportedAlignment)
+        )
     );
     Ok(())
 }

@@ -17,8 +17,8 @@ fn a_segment_is_listed<A: ShmAllocator, M: SharedMemory<A>>(
     let mut reg = Registry::new(alloc);
     let _memory = create::<A, M>(alloc, &mut reg, &name, 2048, &A::Configuration::default())?;
     let names = M::list(alloc, &reg)?;
-    assert_eq!(rt; names.as_slice(), [name].as_slice());
-    assert_eq!(rt; M::does_exist(&reg, &name), Ok(true));
+    assert!(rt; names.as_slice() == [name].as_slice());
+    assert!(rt; matches!(M::does_exist(&reg, &name), Ok(true)));
     Ok(())
 }
 
@@ -30,11 +30,11 @@ fn a_segment_is_removed<A: ShmAllocator, M: SharedMemory<A>>(
     let name = my_name()?;
     let mut reg = Registry::new(alloc);
     let _memory = create::<A, M>(alloc, &mut reg, &name, 2048, &A::Configuration::default())?;
-    assert_eq!(rt; M::remove(alloc, &mut reg, &name), Ok(true));
-    assert_eq!(rt; M::does_exist(&reg, &name), Ok(false));
+    assert!(rt; matches!(M::remove(alloc, &mut reg, &name), Ok(true)));
+    assert!(rt; matches!(M::does_exist(&reg, &name), Ok(false)));
     assert!(rt; !M::remove_name(&mut reg, &name, &M::Configuration::default()));
     let refused = open::<A, M>(&mut reg, &name, 0);
-    assert_eq!(rt; refused.err(), Some(SharedMemoryOpenError::DoesNotExist));
+    assert!(rt; matches!(refused.err(), Some(SharedMemoryOpenError::DoesNotExist)));
     Ok(())
 }
 
@@ -51,7 +51,7 @@ fn a_segment_outlives_its_handles<A: ShmAllocator, M: SharedMemory<A>>(
     let mut memory = open::<A, M>(&mut reg, &name, 2048)?;
     memory.acquire_ownership();
     memory.close(&mut reg);
-    assert_eq!(rt; reg.len(), 0);
+    assert!(rt; reg.len() == 0);
     Ok(())
 }
 
@@ -77,7 +77,7 @@ fn paths_have_the_suffix_of_segments(rt: HostRuntime) -> Result<(), Fail> {
     let name = FileName::new(b"mem").ok_or("a file name")?;
     let path = config.path_for(&name)?;
     let suffix = process_local::Memory::<PoolAllocator>::default_suffix();
-    assert_eq!(rt; suffix.as_bytes(), b".shm".as_slice());
-    assert_eq!(rt; config.extract_name_from_path(&path), Some(name));
+    assert!(rt; suffix.as_bytes() == b".shm".as_slice());
+    assert!(rt; config.extract_name_from_path(&path) == Some(name));
     Ok(())
 }

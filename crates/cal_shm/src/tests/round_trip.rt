@@ -75,7 +75,7 @@ fn what_is_written_in_a_pool_is_read(rt: HostRuntime) -> Result<(), Fail> {
     let alloc = rt.alloc();
     let layout = Layout::new(4, 1).ok_or("a layout")?;
     let read = store::<PoolAllocator, file::Memory<PoolAllocator>>(alloc, layout, &[1, 2, 3])?;
-    assert_eq!(rt; read.as_slice(), [1, 2, 3].as_slice());
+    assert!(rt; read.as_slice() == [1, 2, 3].as_slice());
     Ok(())
 }
 
@@ -88,6 +88,6 @@ fn what_is_written_behind_a_bump_is_read(rt: HostRuntime) -> Result<(), Fail> {
         layout,
         &[1, 2],
     )?;
-    assert_eq!(rt; read.as_slice(), [1, 2].as_slice());
+    assert!(rt; read.as_slice() == [1, 2].as_slice());
     Ok(())
 }

@@ -20,18 +20,14 @@ fn both_see_the_bytes<M: SharedMemory<PoolAllocator>>(
         .size(8)
         .create(alloc, &mut reg, &Config { bucket_layout })?;
     let second = M::Builder::new(&name).open(&mut reg, AccessMode::ReadWrite)?;
-    assert_eq!(rt; first.size(&reg), 8);
-    assert_eq!(rt;
-        first.bytes(&reg, PointerOffset::new(0), 8),
-        [0; 8].as_slice()
-    );
+    assert!(rt; first.size(&reg) == 8);
+    assert!(rt; first.bytes(&reg, PointerOffset::new(0), 8) == [0; 8].as_slice());
     let written = M::bytes_mut(&mut reg, &first, PointerOffset::new(2), 3);
-    assert_eq!(rt; written.len(), 3);
+    assert!(rt; written.len() == 3);
     written.copy_from_slice(&[1, 2, 3]);
-    assert_eq!(rt; second.size(&reg), 8);
-    assert_eq!(rt;
-        second.bytes(&reg, PointerOffset::new(0), 8),
-        [0, 0, 1, 2, 3, 0, 0, 0].as_slice()
+    assert!(rt; second.size(&reg) == 8);
+    assert!(rt;
+        second.bytes(&reg, PointerOffset::new(0), 8) == [0, 0, 1, 2, 3, 0, 0, 0].as_slice()
     );
     Ok(())
 }

@@ -18,9 +18,9 @@ fn a_segment_is_created<M: SharedMemory<PoolAllocator>>(
 ) -> Result<(), Fail> {
     let mut reg = Registry::new(alloc);
     let first = create::<PoolAllocator, M>(alloc, &mut reg, &my_name()?, 1024, &pool_of(8, 8)?)?;
-    assert_eq!(rt; first.size(&reg), 1024);
-    assert_eq!(rt; first.max_alignment(&reg), 8);
-    assert_eq!(rt; first.allocator(&reg).number_of_buckets(), 128);
+    assert!(rt; first.size(&reg) == 1024);
+    assert!(rt; first.max_alignment(&reg) == 8);
+    assert!(rt; first.allocator(&reg).number_of_buckets() == 128);
     Ok(())
 }
 
@@ -32,9 +32,9 @@ fn a_new_segment_owns_its_name<M: SharedMemory<PoolAllocator>>(
     let name = my_name()?;
     let mut reg = Registry::new(alloc);
     let first = create::<PoolAllocator, M>(alloc, &mut reg, &name, 1024, &pool_of(8, 8)?)?;
-    assert_eq!(rt; *first.name(), name);
+    assert!(rt; *first.name() == name);
     assert!(rt; first.has_ownership());
-    assert_eq!(rt; first.payload_start_address(), 0);
+    assert!(rt; first.payload_start_address() == 0);
     assert!(rt; M::does_support_persistency());
     Ok(())
 }
@@ -48,11 +48,11 @@ fn a_segment_is_opened<M: SharedMemory<PoolAllocator>>(
     let mut reg = Registry::new(alloc);
     let _first = create::<PoolAllocator, M>(alloc, &mut reg, &name, 1024, &pool_of(8, 8)?)?;
     let refused = open::<PoolAllocator, M>(&mut reg, &name, 2048);
-    assert_eq!(rt; refused.err(), Some(SharedMemoryOpenError::SizeDoesNotFit));
+    assert!(rt; matches!(refused.err(), Some(SharedMemoryOpenError::SizeDoesNotFit)));
     let second = open::<PoolAllocator, M>(&mut reg, &name, 1024)?;
     assert!(rt; !second.has_ownership());
     let third = open::<PoolAllocator, M>(&mut reg, &name, 0)?;
-    assert_eq!(rt; third.size(&reg), 1024);
+    assert!(rt; third.size(&reg) == 1024);
     Ok(())
 }
 
@@ -87,32 +87,44 @@ fn refusals_come_in_order<M: SharedMemory<PoolAllocator>>(
     let mut reg = Registry::new(alloc);
     let long = [b'a'; 255];
     let too_large = (1 << 56) + 1;
-    assert_eq!(rt; refusal_of::<M>(alloc, &mut reg, b"mem", 64, 8)?, None);
-    assert_eq!(rt;
-        refusal_of::<M>(alloc, &mut reg, &long, 0, 8192)?,
-        Some(SharedMemoryCreateError::SizeIsZero)
+    assert!(rt; matches!(refusal_of::<M>(alloc, &mut reg, b"mem", 64, 8)?, None));
+    assert!(rt;
+        matches!(
+            refusal_of::<M>(alloc, &mut reg, &long, 0, 8192)?,
+            Some(SharedMemoryCreateError::SizeIsZero)
+        )
     );
-    assert_eq!(rt;
-        refusal_of::<M>(alloc, &mut reg, &long, too_large, 8192)?,
-        Some(SharedMemoryCreateError::SizeOutOfRange)
+    assert!(rt;
+        matches!(
+            refusal_of::<M>(alloc, &mut reg, &long, too_large, 8192)?,
+            Some(SharedMemoryCreateError::SizeOutOfRange)
+        )
     );
-    assert_eq!(rt;
-        refusal_of::<M>(alloc, &mut reg, &long, 64, 8192)?,
-        Some(SharedMemoryCreateError::PathTooLong)
+    assert!(rt;
+        matches!(
+            refusal_of::<M>(alloc, &mut reg, &long, 64, 8192)?,
+            Some(SharedMemoryCreateError::PathTooLong)
+        )
     );
-    assert_eq!(rt;
-        refusal_of::<M>(alloc, &mut reg, b"mem", 64, 8192)?,
-        Some(SharedMemoryCreateError::AlreadyExists)
+    assert!(rt;
+        matches!(
+            refusal_of::<M>(alloc, &mut reg, b"mem", 64, 8192)?,
+            Some(SharedMemoryCreateError::AlreadyExists)
+        )
     );
-    assert_eq!(rt;
-        refusal_of::<M>(alloc, &mut reg, b"other", 64, 8192)?,
-        Some(SharedMemoryCreateError::InternalError)
+    assert!(rt;
+        matches!(
+            refusal_of::<M>(alloc, &mut reg, b"other", 64, 8192)?,
+            Some(SharedMemoryCreateError::InternalError)
+        )
     );
-    assert_eq!(rt;
-        refusal_of::<M>(alloc, &mut reg, b"other", 8192, 4096)?,
-        None
+    assert!(rt;
+        matches!(
+            refusal_of::<M>(alloc, &mut reg, b"other", 8192, 4096)?,
+            None
+        )
     );
-    assert_eq!(rt; reg.len(), 2);
+    assert!(rt; reg.len() == 2);
     Ok(())
 }
 
@@ -123,13 +135,15 @@ fn buckets_are_refused<M: SharedMemoryForPoolAllocator>(
 ) -> Result<(), Fail> {
     let mut reg = Registry::new(alloc);
     let memory = create::<PoolAllocator, M>(alloc, &mut reg, &my_name()?, 8, &pool_of(8, 8)?)?;
-    assert_eq!(rt; memory.bucket_size(&reg), 8);
+    assert!(rt; memory.bucket_size(&reg) == 8);
     let refused = memory.allocate(&mut reg, layout(9, 1)?);
-    assert_eq!(rt; refused.err(), Some(ShmAllocationError::SizeTooLarge));
+    assert!(rt; matches!(refused.err(), Some(ShmAllocationError::SizeTooLarge)));
     let refused = memory.allocate(&mut reg, layout(1, 16)?);
-    assert_eq!(rt;
-        refused.err(),
-        Some(ShmAllocationError::ExceedsMaxSupportedAlignment)
+    assert!(rt;
+        matches!(
+            refused.err(),
+            Some(ShmAllocationError::ExceedsMaxSupportedAlignment)
+        )
     );
     Ok(())
 }
@@ -143,12 +157,12 @@ fn a_bucket_is_given_back<M: SharedMemoryForPoolAllocator>(
     let mut reg = Registry::new(alloc);
     let memory = create::<PoolAllocator, M>(alloc, &mut reg, &my_name()?, 8, &pool_of(8, 8)?)?;
     let pointer = memory.allocate(&mut reg, small)?;
-    assert_eq!(rt; pointer.offset.as_value(), 0);
+    assert!(rt; pointer.offset.as_value() == 0);
     memory.deallocate_bucket(&mut reg, pointer.offset);
     let again = memory.allocate(&mut reg, small)?;
-    assert_eq!(rt; again.offset.as_value(), 0);
+    assert!(rt; again.offset.as_value() == 0);
     let refused = memory.allocate(&mut reg, small);
-    assert_eq!(rt; refused.err(), Some(ShmAllocationError::OutOfMemory));
+    assert!(rt; matches!(refused.err(), Some(ShmAllocationError::OutOfMemory)));
     Ok(())
 }
 

@@ -18,15 +18,17 @@ fn a_long_name_is_not_created<S: DynamicStorage<i64>>(
     let name = long_name()?;
     let mut reg = Registry::new(alloc);
     let refused = create::<S>(&mut reg, &name, 873);
-    assert_eq!(rt; refused.err(), Some(DynamicStorageCreateError::PathTooLong));
+    assert!(rt; matches!(refused, Err(DynamicStorageCreateError::PathTooLong)));
     let refused = S::Builder::new(&name).open_or_create(&mut reg, 444, |_, _| true);
-    assert_eq!(rt;
-        refused.err(),
-        Some(DynamicStorageOpenOrCreateError::DynamicStorageOpenError(
-            DynamicStorageOpenError::PathTooLong
-        ))
+    assert!(rt;
+        matches!(
+            refused,
+            Err(DynamicStorageOpenOrCreateError::DynamicStorageOpenError(
+                DynamicStorageOpenError::PathTooLong
+            ))
+        )
     );
-    assert_eq!(rt; reg.len(), 0);
+    assert!(rt; reg.len() == 0);
     Ok(())
 }
 
@@ -38,9 +40,9 @@ fn a_long_name_is_not_found<S: DynamicStorage<i64>>(
     let name = long_name()?;
     let mut reg = Registry::new(alloc);
     let refused = open::<S>(&mut reg, &name);
-    assert_eq!(rt; refused.err(), Some(DynamicStorageOpenError::PathTooLong));
-    assert_eq!(rt; S::remove(alloc, &mut reg, &name), Ok(false));
-    assert_eq!(rt; S::does_exist(&reg, &name), Ok(false));
+    assert!(rt; matches!(refused, Err(DynamicStorageOpenError::PathTooLong)));
+    assert!(rt; matches!(S::remove(alloc, &mut reg, &name), Ok(false)));
+    assert!(rt; matches!(S::does_exist(&reg, &name), Ok(false)));
     Ok(())
 }
 
@@ -48,7 +50,7 @@ fn a_long_name_is_not_found<S: DynamicStorage<i64>>(
 fn a_long_name_cannot_be_begun(rt: HostRuntime) -> Result<(), Fail> {
     let mut reg = Registry::new(rt.alloc());
     let begun = file::Builder::<i64>::new(&long_name()?).begin(&mut reg, 444);
-    assert_eq!(rt; begun.err(), Some(DynamicStorageCreateError::PathTooLong));
+    assert!(rt; matches!(begun, Err(DynamicStorageCreateError::PathTooLong)));
     Ok(())
 }
 
@@ -113,9 +115,9 @@ fn names_are_listed<S: DynamicStorage<i64>>(rt: &impl Abort, alloc: Global) -> R
     let mut reg = Registry::new(alloc);
     let prefix = FileName::new(b"hidden_").ok_or("a file name")?;
     make_six::<S>(&mut reg, &prefix)?;
-    assert_eq!(rt; listed::<S>(alloc, &reg)?.as_str(), "B a- a ab b ");
-    assert_eq!(rt; listed_under::<S>(alloc, &reg, &prefix)?.as_str(), "other ");
-    assert_eq!(rt; reg.len(), 6);
+    assert!(rt; listed::<S>(alloc, &reg)?.as_str() == "B a- a ab b ");
+    assert!(rt; listed_under::<S>(alloc, &reg, &prefix)?.as_str() == "other ");
+    assert!(rt; reg.len() == 6);
     Ok(())
 }
 
@@ -134,7 +136,7 @@ fn a_path_is_there<S: DynamicStorage<i64>>(rt: &impl Abort, alloc: Global) -> Re
     assert!(rt; reg.contains(&path));
     let other = FilePath::new(b"/tmp/myDynStorage").ok_or("a file path")?;
     assert!(rt; !reg.contains(&other));
-    assert_eq!(rt; reg.len(), 1);
+    assert!(rt; reg.len() == 1);
     Ok(())
 }
 
@@ -149,8 +151,8 @@ fn a_storage_has_its_name<S: DynamicStorage<i64>>(
         .call_drop_on_destruction(false)
         .timeout(3)
         .create(&mut reg, 444, |_, _| true)?;
-    assert_eq!(rt; *made.name(), name);
-    assert_eq!(rt; S::default_suffix().as_bytes(), b".dyn".as_slice());
+    assert!(rt; *made.name() == name);
+    assert!(rt; S::default_suffix().as_bytes() == b".dyn".as_slice());
     assert!(rt; S::does_support_persistency());
     Ok(())
 }

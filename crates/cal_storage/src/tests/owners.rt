@@ -20,7 +20,7 @@ fn remove<S: DynamicStorage<i64>>(
     ensures keeps { KeepsHandles reg.old reg.new }
 {
     let removed = S::remove(alloc, reg, name);
-    assert_eq!(rt; removed, Ok(true));
+    assert!(rt; matches!(removed, Ok(true)));
 }
 
 /// A name that another made anew stays when its first owner closes.
@@ -36,7 +36,7 @@ fn a_name_that_was_made_anew_stays<S: DynamicStorage<i64>>(
     first.close(&mut reg);
     assert!(rt; is_there::<S>(&reg, &name)?);
     let third = open::<S>(&mut reg, &name)?;
-    assert_eq!(rt; *third.get(&reg), 873);
+    assert!(rt; *third.get(&reg) == 873);
     Ok(())
 }
 
@@ -63,7 +63,7 @@ fn a_new_owner_takes_the_name<S: DynamicStorage<i64>>(
     acquire(rt, &mut second);
     second.close(&mut reg);
     assert!(rt; !is_there::<S>(&reg, &name)?);
-    assert_eq!(rt; *first.get(&reg), 444);
+    assert!(rt; *first.get(&reg) == 444);
     Ok(())
 }
 
@@ -74,10 +74,10 @@ fn an_id_is_not_used_again(rt: HostRuntime) -> Result<(), Fail> {
     let first = create::<file::Storage<i64>>(&mut reg, &name, 444)?;
     let first_id = first.handle.id;
     first.close(&mut reg);
-    assert_eq!(rt; reg.len(), 0);
+    assert!(rt; reg.len() == 0);
     let second = create::<file::Storage<i64>>(&mut reg, &name, 873)?;
-    assert_eq!(rt; first_id, 0);
-    assert_eq!(rt; second.handle.id, 1);
+    assert!(rt; first_id == 0);
+    assert!(rt; second.handle.id == 1);
     Ok(())
 }
 

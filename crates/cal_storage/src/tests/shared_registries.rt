@@ -55,7 +55,7 @@ fn one_opens_what_another_finishes(rt: HostRuntime) -> Result<(), Fail> {
             Ok(()) | Err(DynamicStorageOpenError::InitializationNotYetFinalized)
         )
     );
-    assert_eq!(rt; open(&rt, &shared, &name), Ok(()));
+    assert!(rt; matches!(open(&rt, &shared, &name), Ok(())));
     Ok(())
 }
 
@@ -68,6 +68,6 @@ fn a_shared_registry_has_what_was_in_it(rt: HostRuntime) -> Result<(), Fail> {
     let shared = SharedRegistry::new(reg);
     let is_there = shared.lock(&rt).contains(&path);
     assert!(rt; is_there);
-    assert_eq!(rt; open(&rt, &shared, &name), Ok(()));
+    assert!(rt; matches!(open(&rt, &shared, &name), Ok(())));
     Ok(())
 }

@@ -12,16 +12,18 @@ fn an_entry_is_opened_once_it_is_finished(rt: HostRuntime) -> Result<(), Fail> {
     let mut reg = Registry::new(rt.alloc());
     let staged = Builder::<i64>::new(&name).begin(&mut reg, 444)?;
     let refused = open::<Storage<i64>>(&mut reg, &name);
-    assert_eq!(rt;
-        refused.err(),
-        Some(DynamicStorageOpenError::InitializationNotYetFinalized)
+    assert!(rt;
+        matches!(
+            refused,
+            Err(DynamicStorageOpenError::InitializationNotYetFinalized)
+        )
     );
     let _storage = staged.finish(&mut reg, |value, _| {
         *value = 873;
         true
     })?;
     let opened = open::<Storage<i64>>(&mut reg, &name)?;
-    assert_eq!(rt; *opened.get(&reg), 873);
+    assert!(rt; *opened.get(&reg) == 873);
     Ok(())
 }
 
@@ -33,10 +35,7 @@ fn an_entry_of_another_version_is_not_opened(rt: HostRuntime) -> Result<(), Fail
     let path = Configuration::<i64>::default().path_for(&name)?;
     assert!(rt; reg.set_version(&path, 9002));
     let refused = open::<Storage<i64>>(&mut reg, &name);
-    assert_eq!(rt;
-        refused.err(),
-        Some(DynamicStorageOpenError::VersionMismatch)
-    );
+    assert!(rt; matches!(refused, Err(DynamicStorageOpenError::VersionMismatch)));
     Ok(())
 }
 
@@ -46,12 +45,9 @@ fn the_path_of_an_entry_that_is_being_made_is_taken(rt: HostRuntime) -> Result<(
     let mut reg = Registry::new(rt.alloc());
     let _staged = Builder::<i64>::new(&name).begin(&mut reg, 444)?;
     let refused = create::<Storage<i64>>(&mut reg, &name, 873);
-    assert_eq!(rt;
-        refused.err(),
-        Some(DynamicStorageCreateError::AlreadyExists)
-    );
+    assert!(rt; matches!(refused, Err(DynamicStorageCreateError::AlreadyExists)));
     let begun = Builder::<i64>::new(&name).begin(&mut reg, 444);
-    assert_eq!(rt; begun.err(), Some(DynamicStorageCreateError::AlreadyExists));
+    assert!(rt; matches!(begun, Err(DynamicStorageCreateError::AlreadyExists)));
     Ok(())
 }
 
@@ -64,13 +60,15 @@ fn a_refused_value_frees_its_path(rt: HostRuntime) -> Result<(), Fail> {
         *value = 873;
         false
     });
-    assert_eq!(rt;
-        finished.err(),
-        Some(DynamicStorageCreateError::InitializationFailed)
+    assert!(rt;
+        matches!(
+            finished,
+            Err(DynamicStorageCreateError::InitializationFailed)
+        )
     );
-    assert_eq!(rt; reg.len(), 0);
+    assert!(rt; reg.len() == 0);
     let again = create::<Storage<i64>>(&mut reg, &name, 456)?;
-    assert_eq!(rt; *again.get(&reg), 456);
+    assert!(rt; *again.get(&reg) == 456);
     Ok(())
 }
 
@@ -79,16 +77,18 @@ fn an_entry_is_finished_without_its_name(rt: HostRuntime) -> Result<(), Fail> {
     let name = my_name()?;
     let mut reg = Registry::new(rt.alloc());
     let staged = Builder::<i64>::new(&name).begin(&mut reg, 444)?;
-    assert_eq!(rt;
-        Storage::<i64>::remove(rt.alloc(), &mut reg, &name),
-        Ok(true)
+    assert!(rt;
+        matches!(
+            Storage::<i64>::remove(rt.alloc(), &mut reg, &name),
+            Ok(true)
+        )
     );
     let storage = staged.finish(&mut reg, |value, _| {
         *value = 873;
         true
     })?;
-    assert_eq!(rt; *storage.get(&reg), 873);
-    assert_eq!(rt; reg.len(), 0);
+    assert!(rt; *storage.get(&reg) == 873);
+    assert!(rt; reg.len() == 0);
     Ok(())
 }
 
@@ -98,7 +98,7 @@ fn a_process_local_storage_is_opened_while_it_is_being_made(rt: HostRuntime) -> 
     let mut reg = Registry::new(rt.alloc());
     let _staged = Builder::<i64>::new(&name).begin(&mut reg, 444)?;
     let opened = open::<process_local::Storage<i64>>(&mut reg, &name)?;
-    assert_eq!(rt; *opened.get(&reg), 444);
+    assert!(rt; *opened.get(&reg) == 444);
     Ok(())
 }
 

@@ -41,11 +41,8 @@ fn stored_and_read<S: DynamicStorage<i64>>(
 #[test]
 fn what_is_written_is_read(rt: HostRuntime) -> Result<(), Fail> {
     let mut reg = Registry::new(rt.alloc());
-    assert_eq!(rt;
-        stored_and_read::<process_local::Storage<i64>>(&mut reg, 456)?,
-        456
-    );
+    assert!(rt; stored_and_read::<process_local::Storage<i64>>(&mut reg, 456)? == 456);
     let mut reg = Registry::new(rt.alloc());
-    assert_eq!(rt; stored_and_read::<file::Storage<i64>>(&mut reg, 456)?, 456);
+    assert!(rt; stored_and_read::<file::Storage<i64>>(&mut reg, 456)? == 456);
     Ok(())
 }

@@ -21,12 +21,9 @@ fn a_name_is_created_once<S: DynamicStorage<i64>>(
     let mut reg = Registry::new(alloc);
     let _first = create::<S>(&mut reg, &name, 444)?;
     let refused = create::<S>(&mut reg, &name, 873);
-    assert_eq!(rt;
-        refused.err(),
-        Some(DynamicStorageCreateError::AlreadyExists)
-    );
+    assert!(rt; matches!(refused, Err(DynamicStorageCreateError::AlreadyExists)));
     let names = S::list(alloc, &reg)?;
-    assert_eq!(rt; names.as_slice(), [name].as_slice());
+    assert!(rt; names.as_slice() == [name].as_slice());
     Ok(())
 }
 
@@ -39,10 +36,10 @@ fn both_see_what_is_written<S: DynamicStorage<i64>>(
     let mut reg = Registry::new(alloc);
     let first = create::<S>(&mut reg, &name, 444)?;
     let second = open::<S>(&mut reg, &name)?;
-    assert_eq!(rt; *second.get(&reg), 444);
+    assert!(rt; *second.get(&reg) == 444);
     *S::get_mut(&mut reg, &second) = 456;
-    assert_eq!(rt; *first.get(&reg), 456);
-    assert_eq!(rt; *second.get(&reg), 456);
+    assert!(rt; *first.get(&reg) == 456);
+    assert!(rt; *second.get(&reg) == 456);
     Ok(())
 }
 
@@ -65,11 +62,11 @@ fn both_read_without_the_name<S: DynamicStorage<i64>>(
     let first = create::<S>(&mut reg, &name, 456)?;
     let second = open::<S>(&mut reg, &name)?;
     take_name::<S>(rt, &mut reg, &name);
-    assert_eq!(rt; *first.get(&reg), 456);
-    assert_eq!(rt; *second.get(&reg), 456);
+    assert!(rt; *first.get(&reg) == 456);
+    assert!(rt; *second.get(&reg) == 456);
     let refused = open::<S>(&mut reg, &name);
-    assert_eq!(rt; refused.err(), Some(DynamicStorageOpenError::DoesNotExist));
-    assert_eq!(rt; S::remove(alloc, &mut reg, &name), Ok(false));
+    assert!(rt; matches!(refused, Err(DynamicStorageOpenError::DoesNotExist)));
+    assert!(rt; matches!(S::remove(alloc, &mut reg, &name), Ok(false)));
     Ok(())
 }
 
@@ -81,15 +78,17 @@ fn a_refused_value_leaves_nothing<S: DynamicStorage<i64>>(
     let name = my_name()?;
     let mut reg = Registry::new(alloc);
     let refused = S::Builder::new(&name).create(&mut reg, 873, |_, _| false);
-    assert_eq!(rt;
-        refused.err(),
-        Some(DynamicStorageCreateError::InitializationFailed)
+    assert!(rt;
+        matches!(
+            refused,
+            Err(DynamicStorageCreateError::InitializationFailed)
+        )
     );
     let names = S::list(alloc, &reg)?;
     assert!(rt; names.is_empty());
-    assert_eq!(rt; reg.len(), 0);
+    assert!(rt; reg.len() == 0);
     let _made = create::<S>(&mut reg, &name, 444)?;
-    assert_eq!(rt; reg.len(), 1);
+    assert!(rt; reg.len() == 1);
     Ok(())
 }
 
@@ -115,7 +114,7 @@ fn two_hold_and_close<S: DynamicStorage<i64>>(
     let mut first = S::Builder::new(name).open_or_create(reg, 873, |_, _| true)?;
     first.release_ownership();
     let second = S::Builder::new(name).open_or_create(reg, 444, |_, _| false)?;
-    assert_eq!(rt; *second.get(reg), 873);
+    assert!(rt; *second.get(reg) == 873);
     assert!(rt; !second.has_ownership());
     first.close(reg);
     second.close(reg);
@@ -131,7 +130,7 @@ fn a_value_outlives_its_holders<S: DynamicStorage<i64>>(
     let mut reg = Registry::new(alloc);
     two_hold_and_close::<S>(rt, &mut reg, &name)?;
     let third = open::<S>(&mut reg, &name)?;
-    assert_eq!(rt; *third.get(&reg), 873);
+    assert!(rt; *third.get(&reg) == 873);
     Ok(())
 }
 

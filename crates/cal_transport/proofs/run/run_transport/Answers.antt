@@ -2,7 +2,7 @@ use Rattle.std.proofs.Common.{◌≡◌, ◌+◌, [], length, Some, true, refl, 
 use Rattle.std.specs.List.{slice_get}
 use Rattle.std.proofs.lemmas.Option.{slice_get_read}
 use Rattle.cal_transport.specs.Built.{is_built}
-use Rattle.cal_transport.specs.FillList.{AreServed}
+use Rattle.cal_transport.specs.FillList.{AreServed, completed_after}
 use Rattle.cal_transport.specs.Run.{IsRun}
 use Rattle.cal_transport.specs.Serve.{NotServed}
 use Rattle.cal_transport.proofs.Capacity.{run_has_capacity}
@@ -88,4 +88,12 @@ pub returns-clause-filled : goal.returns-clause-filled
 returns-clause-filled c = λ buffer borrow filled is.
     subst (λ commands. AreServed (buffer + borrow + 1) commands c.transit.new.into.items) (sym is)
     (fill_served c.args.settings.now buffer borrow c.transit.new.into.items filled
-    (subst (λ commands. IsRun c.args.settings.now commands c.transit.new.into.items) is (returns-clause-run c)))
+    (subst (λ commands. IsRun c.args.settings.now commands c.transit.new.into.items) is (returns-clause-run c))).0
+
+pub returns-clause-completed : goal.returns-clause-completed
+returns-clause-completed c = λ buffer borrow filled is.
+    subst
+    (λ commands. completed_after c.args.settings.now commands c.transit.new.into.items ≡ buffer + borrow + 1)
+    (sym is)
+    (fill_served c.args.settings.now buffer borrow c.transit.new.into.items filled
+    (subst (λ commands. IsRun c.args.settings.now commands c.transit.new.into.items) is (returns-clause-run c))).1

@@ -1,6 +1,5 @@
-use Rattle.std.proofs.Common.{◌*◌, sym, ap, ◌∙◌, subst, arith}
+use Rattle.std.proofs.Common.{sym, ap, ◌∙◌, subst, arith}
 use Rattle.std.proofs.lemmas.Option.{slice_get_within}
-use Rattle.cal_alloc.specs.PointerOffset.{pointer_offset}
 use Rattle.cal_transport.specs.declared.command.Command.TheVariants as command
 use Rattle.cal_transport.specs.declared.reply.Reply.TheVariants.{Discarded}
 use Rattle.cal_transport.specs.ChunkRecord.{HasNoRecord, IsFound}

@@ -1,4 +1,4 @@
-use Rattle.std.proofs.Common.{◌≡◌, ◌<◌, arith, List, ◌∷◌, []}
+use Rattle.std.proofs.Common.{◌<◌, arith}
 use Rattle.cal_transport.proofs.Transits.{listed_on, listed_with, tells}
 use Rattle.cal_transport.proofs.transport.transit.append_transit.Goals as goal
 
