@@ -29,3 +29,6 @@ pub mod Viewing
 pub mod State
 pub mod Sharing
 pub mod CommandsDo
+pub mod StateOf
+pub mod Opening
+pub mod Room

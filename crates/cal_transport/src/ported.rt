@@ -2,5 +2,7 @@
 //! proved.
 
 mod chunk_entry;
+mod opening;
 mod parts;
 mod sharing;
+pub mod transport;
