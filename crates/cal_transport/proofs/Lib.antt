@@ -60,4 +60,9 @@ pub mod ReadStep
 pub mod GrowthStep
 pub mod LendStep
 pub mod Arrivals
+pub mod NewTransport
+pub mod NewMemory
+pub mod Openable
+pub mod Paths
+pub mod NewPorts
 mod Serving

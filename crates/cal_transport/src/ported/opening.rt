@@ -79,8 +79,7 @@ pub(crate) fn new_memory(
         .create(alloc, reg);
     match created {
         Ok(memory) => Ok(memory),
-        Err(SharedMemoryCreateError::NoMemory) => Err(AllocError),
-        Err(_) => unreachable!(),
+        Err(error) => Err(memory_error(error)),
     }
 }
 
@@ -100,8 +99,7 @@ pub(crate) fn new_view(
     );
     match builder.open(alloc, reg, AccessMode::ReadWrite) {
         Ok(view) => Ok(view),
-        Err(SharedMemoryOpenError::NoMemory) => Err(AllocError),
-        Err(_) => unreachable!(),
+        Err(error) => Err(view_error(error)),
     }
 }
 
@@ -132,12 +130,40 @@ pub(crate) fn new_ports(
 {
     let sender = match port_builder(settings).create_sender(alloc, reg) {
         Ok(sender) => sender,
-        Err(ZeroCopyCreationError::NoMemory) => return Err(AllocError),
-        Err(_) => unreachable!(),
+        Err(error) => return Err(port_error(error)),
     };
     match port_builder(settings).create_receiver(alloc, reg) {
         Ok(receiver) => Ok((sender, receiver)),
-        Err(ZeroCopyCreationError::NoMemory) => Err(AllocError),
-        Err(_) => unreachable!(),
+        Err(error) => Err(port_error(error)),
+    }
+}
+
+/// The want of memory that refused a memory.
+fn memory_error(error: SharedMemoryCreateError) -> AllocError
+    requires memory { error ≡ SharedMemoryCreateError.NoMemory }
+{
+    match error {
+        SharedMemoryCreateError::NoMemory => AllocError,
+        _ => unreachable!(),
+    }
+}
+
+/// The want of memory that refused a view.
+fn view_error(error: SharedMemoryOpenError) -> AllocError
+    requires memory { error ≡ SharedMemoryOpenError.NoMemory }
+{
+    match error {
+        SharedMemoryOpenError::NoMemory => AllocError,
+        _ => unreachable!(),
+    }
+}
+
+/// The want of memory that refused a port.
+fn port_error(error: ZeroCopyCreationError) -> AllocError
+    requires memory { error ≡ ZeroCopyCreationError.NoMemory }
+{
+    match error {
+        ZeroCopyCreationError::NoMemory => AllocError,
+        _ => unreachable!(),
     }
 }
