@@ -1,5 +1,5 @@
 -- The parts of a new transport belong together, and show the first ledger.
-use Rattle.std.proofs.Common.{ℕ, zero, suc, ◌+◌, ◌*◌, ◌<◌, ◌≤◌, ◌≡◌, Bool, true, false, nat_lt, List, [], ◌∷◌, length, get_or, map, replicate, Some, None, refl, sym, ap, ◌∙◌, subst, arith, ◌&&◌}
+use Rattle.std.proofs.Common.{ℕ, zero, suc, ◌+◌, ◌*◌, ◌<◌, ◌≤◌, ◌≡◌, Bool, true, false, nat_lt, List, [], ◌∷◌, length, get_or, map, replicate, Some, None, refl, sym, ap, ◌∙◌, subst, arith, ◌&&◌, ◌||◌, ◌==◌, not}
 use Rattle.std.specs.List.{slice_get}
 use Rattle.std.proofs.lemmas.Bool.Decides.{nat_tests}
 use Rattle.std.proofs.lemmas.List.{length-replicate, get_or-replicate}
@@ -11,12 +11,11 @@ use Rattle.cal_connection.specs.PortLemmas.{shape-channel_at}
 use Rattle.cal_connection.specs.declared.settings.ConnectionSettings.{ConnectionSettings}
 use Rattle.cal_transport.specs.declared.settings.Settings.{Settings}
 use Rattle.cal_transport.specs.Settings.{clamped_settings, first_layout, payload, create_cause}
-use Rattle.cal_transport.specs.Ledger.{Ledger, ChannelHistory, first_ledger, new_history, is_free}
+use Rattle.cal_transport.specs.Ledger.{Ledger, ChannelHistory, first_ledger, new_history, current, is_unused}
 use Rattle.cal_transport.specs.Opening.{first_segment, HasFirstSegment, AreNewTogether, AreNewPorts}
 use Rattle.cal_transport.specs.Shown.{ShowsActive, ShowsMapped, ShowsChannel, TracksChannel, Shows, Tracks, connection_settings}
 use Rattle.cal_transport.specs.Soundness.{IsSoundLedger}
 use Rattle.cal_transport.specs.State.{TransportState, IsLinked, Represents, core_of, active_at}
-use Rattle.cal_transport.specs.StateOf.{IsSoundState}
 use Rattle.cal_transport.proofs.Sound.{sound_first}
 
 -- what the parts of a new transport are
@@ -47,10 +46,13 @@ replicated zero k x y e = absurd (none-some y e)
 replicated (suc n) zero x y e = (omega arith, sym (same_Some x y e))
 replicated (suc n) (suc k) x y e = let r = replicated n k x y e in (omega (arith, r.0), r.1)
 
-everywhere : {A : Type 0} (n k : ℕ) (x : A) → get_or (replicate n x) k x ≡ x
+pub everywhere : {A : Type 0} (n k : ℕ) (x : A) → get_or (replicate n x) k x ≡ x
 everywhere zero k x = refl
 everywhere (suc n) zero x = refl
 everywhere (suc n) (suc k) x = everywhere n k x
+
+at_least : (m n : ℕ) → m ≡ n → n ≤ m
+at_least m n e = omega arith
 
 none_in_use : (settings : ConnectionSettings) (n segment bucket : ℕ) →
     channel.is_used (replicate n (channel.new_segment settings)) segment bucket ≡ false
@@ -64,7 +66,7 @@ module _ (t : TransportState) (new : IsNewState t) where
   abbrev l : Ledger
   l = ledger_of t.settings
 
-  linked : IsLinked t
+  pub linked : IsLinked t
   linked =
       let ports = new.ports in
       let long : length t.owners ≡ 1 = ap length new.owners in
@@ -88,12 +90,12 @@ module _ (t : TransportState) (new : IsNewState t) where
         layout = refl;
         used = λ bucket. everywhere t.settings.count bucket false;
         chunks = refl;
-        payload =
-            (let e = length-replicate (payload (first_layout t.settings)) 0 in omega arith);
+        payload = at_least (length (replicate (payload (first_layout t.settings)) 0)) (payload (first_layout t.settings))
+            (length-replicate (payload (first_layout t.settings)) 0);
       })
   shows_active (suc n) =
       subst (ShowsActive l (suc n)) (sym (new.parts.segments.others (suc n) (λ e. absurd (omega (arith, e)))))
-      (ap (λ b. b && _) (let past : nat_lt (suc n) 1 ≡ false = grind (arith, nat_tests) in past))
+      (ap (λ b. b && (suc n == current l || not (is_unused l (suc n)))) (let past : nat_lt (suc n) 1 ≡ false = grind (arith, nat_tests) in past))
 
   shows_channel : (k : ℕ) (history : ChannelHistory) → slice_get l.histories k ≡ Some history →
       ShowsChannel (core_of t) l k history
@@ -172,6 +174,3 @@ module _ (t : TransportState) (new : IsNewState t) where
           shows = subst (Shows (core_of t)) (sym same) shows;
           tracks = subst (Tracks (core_of t)) (sym same) tracks;
         }
-
-    pub first_is_sound : IsSoundState t
-    first_is_sound = record { linked = linked; ledger = first_ledger s; stands = represents_first }

@@ -4,14 +4,17 @@ use Rattle.cal_alloc.specs.Limits.{max_memory_alignment}
 use Rattle.cal_alloc.specs.Pool.{Pool}
 use Rattle.cal_names.specs.ConceptSettings.{ConceptSettings, settings_of}
 use Rattle.cal_storage.specs.Contents.{Contents}
+use Rattle.cal_shm.specs.Configuration.{default_parts as shm_parts}
 use Rattle.cal_shm.specs.Segment.{Segment}
+use Rattle.cal_shm.specs.TypeName.{segment_type_name}
+use Rattle.cal_resizable.specs.Creation.{MemoryPlan}
 use Rattle.cal_connection.specs.Channel.{new_channel}
 use Rattle.cal_connection.specs.Configuration.{default_parts, stored_type}
 use Rattle.cal_connection.specs.Plan.{ConnectionPlan}
 use Rattle.cal_connection.specs.Port as port
 use Rattle.cal_resizable.specs.Memory.{MemoryState}
 use Rattle.cal_resizable.specs.Together.{IsAlone, AreTogether}
-use Rattle.cal_resizable.specs.View.{View}
+use Rattle.cal_resizable.specs.View.{View, ViewPlan}
 use Rattle.cal_transport.specs.declared.settings.Settings.{Settings}
 use Rattle.cal_transport.specs.declared.ported.transport.OpenError.{OpenError}
 use Rattle.cal_transport.specs.declared.ported.transport.OpenError.TheVariants.{Create, NoMemory}
@@ -38,6 +41,22 @@ transport_name = codes "transport"
 
 -- ---- the memory and its view
 
+-- what makes the paths of the segments
+abbrev pub memory_settings : ConceptSettings
+memory_settings = settings_of shm_parts (Some (segment_type_name 0))
+
+abbrev pub memory_plan : Settings → MemoryPlan
+memory_plan s = record {
+  name = transport_name;
+  settings = memory_settings;
+  strategy = s.strategy;
+  layout = record { size = s.size; alignment = s.alignment };
+  number_of_chunks = s.count;
+}
+
+abbrev pub view_plan : ViewPlan
+view_plan = record { name = transport_name; settings = memory_settings }
+
 -- the first segment: every bucket is free, and every byte is zero
 abbrev pub first_segment : Settings → ActiveSegment
 first_segment s = record {
@@ -54,6 +73,7 @@ first_segment s = record {
 -- A memory has its first segment alone, which is as the settings say.
 pub record HasFirstSegment (s : Settings) (contents : Contents (Segment Pool)) (memory : MemoryState) : Type 0 where
   pub name : memory.name ≡ transport_name
+  pub settings : memory.settings ≡ memory_settings
   pub strategy : memory.strategy ≡ s.strategy
   pub current : memory.current ≡ 0
   pub first : active_at contents memory.slots 0 ≡ Some (first_segment s)

@@ -1,8 +1,8 @@
--- How a transport's fields are seen: as the values of its parts, which show some ledger.
+-- How a transport's fields are seen.
 use Rattle.std.specs.Prelude.{◌-◌, map, vec_items, vec_len, vec_capacity}
 use Rattle.cal_transport.specs.declared.ported.transport.Transport.TheInside.{Inside}
 use Rattle.cal_transport.specs.Ledger.{Ledger}
-use Rattle.cal_transport.specs.State.{TransportState, IsLinked, Represents}
+use Rattle.cal_transport.specs.State.{TransportState, Represents, IsLinked}
 
 abbrev pub state_of : Inside → TransportState
 state_of t = record {
@@ -22,11 +22,8 @@ state_of t = record {
   spare_tables = vec_capacity t.owners - vec_len t.owners;
 }
 
--- What every transport keeps: its parts belong together, and stand for some ledger.
-pub record IsSoundState (t : TransportState) : Type 0 where
-  pub linked : IsLinked t
+-- what every transport keeps: it stands for some ledger, and its parts belong together
+pub record IsKept (t : Inside) : Type 0 where
   pub ledger : Ledger
-  pub stands : Represents t ledger
-
-abbrev pub IsSoundTransport : Inside → Type 0
-IsSoundTransport t = IsSoundState (state_of t)
+  pub represents : Represents (state_of t) ledger
+  pub linked : IsLinked (state_of t)

@@ -2,7 +2,7 @@
 ghost use Rattle.std.specs.Prelude.{◌≡◌, ◌≤◌, ◌-◌, ◌∷◌, [], IfOk, map, replicate, vec_len, vec_capacity, vec_items, codes};
 ghost use Rattle.cal_queue.specs.UsedChunks.{none_used};
 ghost use Rattle.cal_storage.specs.Contents.{nothing_registered};
-ghost use Rattle.cal_transport.specs.Opening.{CanOpen, IsNewMemory, AreNewTogether, AreNewPorts, connection_plan, transport_name};
+ghost use Rattle.cal_transport.specs.Opening.{CanOpen, IsNewMemory, AreNewTogether, AreNewPorts, connection_plan, memory_plan, view_plan, transport_name};
 
 use crate::ported::chunk_entry::Owners;
 use crate::ported::parts::{
@@ -57,6 +57,20 @@ pub(crate) fn lent_lists(
     Ok(lists)
 }
 
+/// The builder of the memory.
+fn memory_builder(settings: &Settings) -> DynamicMemoryBuilder<PoolAllocator, Shm>
+    requires can { CanOpen settings.now }
+    ensures plan { result ≡ memory_plan settings.now }
+{
+    let layout = Layout::new(settings.size, settings.alignment).unwrap();
+    let builder: DynamicMemoryBuilder<PoolAllocator, Shm> =
+        DynamicMemoryBuilder::new(&transport_name());
+    builder
+        .max_chunk_layout_hint(layout)
+        .max_number_of_chunks_hint(settings.count)
+        .allocation_strategy(settings.strategy)
+}
+
 /// The memory of a new transport, in a new registry.
 pub(crate) fn new_memory(
     alloc: Global,
@@ -81,6 +95,13 @@ pub(crate) fn new_memory(
         Ok(memory) => Ok(memory),
         Err(error) => Err(memory_error(error)),
     }
+}
+
+/// The builder of the view.
+fn view_builder() -> DynamicViewBuilder<PoolAllocator, Shm>
+    ensures plan { result ≡ view_plan }
+{
+    DynamicViewBuilder::new(&transport_name())
 }
 
 /// The view of a new transport, over the registry that has its memory.

@@ -48,15 +48,15 @@ pub struct Transport {
     pub(crate) sender: TransportSender,
     /// The port that receives.
     pub(crate) receiver: TransportReceiver,
-    /// An entry for each accepted loan, in the order of their names; room for each loan that may come is reserved.
-    pub(crate) entries: Vec<ChunkEntry>,
     /// For each channel, the buckets of the chunks that are borrowed from it: those of a segment stand from its number
     /// times the number of samples on.
     pub(crate) lent: Vec<UsedChunkList>,
-    /// For each channel, how many chunks are in transit there.
-    pub(crate) transits: Vec<usize>,
+    /// An entry for each accepted loan, in the order of their names; room for each loan that may come is reserved.
+    pub(crate) entries: Vec<ChunkEntry>,
     /// For each segment that was ever made, for each bucket, the index of its chunk's entry.
     pub(crate) owners: Vec<Owners>,
+    /// For each channel, how many chunks are in transit there.
+    pub(crate) transits: Vec<usize>,
     /// How many chunks are in transit, each counted once for each channel.
     pub(crate) in_transit: usize,
 }
@@ -66,11 +66,11 @@ impl Model for Transport {
 
     ghost Value = { TransportState };
 
-    ghost use Rattle.cal_transport.specs.StateOf.{state_of, IsSoundTransport};
+    ghost use Rattle.cal_transport.specs.StateOf.{state_of, IsKept};
 
     ghost view = { state_of };
 
-    ghost invariant = { IsSoundTransport };
+    ghost invariant = { IsKept };
 }
 
 impl Transport {
@@ -114,10 +114,10 @@ impl Transport {
             connection_registry,
             sender,
             receiver,
-            entries,
             lent,
-            transits,
+            entries,
             owners,
+            transits,
             in_transit: 0,
         })
     }

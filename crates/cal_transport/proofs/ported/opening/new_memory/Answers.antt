@@ -6,6 +6,3 @@ memory_error-requires c = ?
 
 pub returns-in-Ok : goal.returns-in-Ok
 returns-in-Ok c = ?
-
-pub unwrap-layout-requires : goal.unwrap-layout-requires
-unwrap-layout-requires c = ?
