@@ -64,5 +64,7 @@ pub mod NewTransport
 pub mod NewMemory
 pub mod Openable
 pub mod Paths
+pub mod PoolRules
+pub mod NewView
 pub mod NewPorts
 mod Serving

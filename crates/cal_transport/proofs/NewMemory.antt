@@ -62,7 +62,7 @@ management_apart settings name rule same =
     none-some (name, 0)
     (sym (segment_of_name-management name) ∙ ap segment_of_name names ∙ segment_of_name-again name 0 rule (omega arith))
 
-named : IsFileName transport_name
+pub named : IsFileName transport_name
 named = (is_file_name-decides transport_name).0 refl
 
 -- ---- what isn't refused

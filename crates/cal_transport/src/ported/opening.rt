@@ -92,7 +92,10 @@ pub(crate) fn new_memory(
         .allocation_strategy(settings.strategy)
         .create(alloc, reg);
     match created {
-        Ok(memory) => Ok(memory),
+        Ok(memory) => {
+            let _sound = memory.number_of_active_segments();
+            Ok(memory)
+        }
         Err(error) => Err(memory_error(error)),
     }
 }
