@@ -66,5 +66,6 @@ pub mod Openable
 pub mod Paths
 pub mod PoolRules
 pub mod NewView
+pub mod RunningState
 pub mod NewPorts
 mod Serving

@@ -32,3 +32,4 @@ pub mod CommandsDo
 pub mod StateOf
 pub mod Opening
 pub mod Room
+pub mod Served

@@ -2,6 +2,7 @@
 ghost use Rattle.std.specs.Prelude.{◌≡◌, ◌≤◌, ◌-◌, ◌∷◌, [], IfOk, map, replicate, vec_len, vec_capacity, vec_items, codes};
 ghost use Rattle.cal_queue.specs.UsedChunks.{none_used};
 ghost use Rattle.cal_storage.specs.Contents.{nothing_registered};
+ghost use Rattle.cal_transport.specs.Settings.{CanMake};
 ghost use Rattle.cal_transport.specs.Opening.{CanOpen, IsNewMemory, AreNewTogether, AreNewPorts, connection_plan, memory_plan, view_plan, transport_name};
 
 use crate::ported::chunk_entry::Owners;
@@ -59,7 +60,7 @@ pub(crate) fn lent_lists(
 
 /// The builder of the memory.
 fn memory_builder(settings: &Settings) -> DynamicMemoryBuilder<PoolAllocator, Shm>
-    requires can { CanOpen settings.now }
+    requires can { CanMake settings.now }
     ensures plan { result ≡ memory_plan settings.now }
 {
     let layout = Layout::new(settings.size, settings.alignment).unwrap();
@@ -82,16 +83,7 @@ pub(crate) fn new_memory(
     ensures made { IfOk result (IsNewMemory settings.now reg.new) }
 {
     a_new_memory_stands_alone::<PoolAllocator>();
-    let layout = Layout::new(settings.size, settings.alignment).unwrap();
-    let builder: DynamicMemoryBuilder<PoolAllocator, Shm> = DynamicMemoryBuilder::new(
-        &transport_name(),
-    );
-    let created = builder
-        .max_chunk_layout_hint(layout)
-        .max_number_of_chunks_hint(settings.count)
-        .allocation_strategy(settings.strategy)
-        .create(alloc, reg);
-    match created {
+    match memory_builder(settings).create(alloc, reg) {
         Ok(memory) => {
             let _sound = memory.number_of_active_segments();
             Ok(memory)
@@ -118,10 +110,7 @@ pub(crate) fn new_view(
     ensures together { IfOk result (AreNewTogether settings.now reg.new memory.now) }
 {
     a_view_opens_what_was_created::<PoolAllocator>();
-    let builder: DynamicViewBuilder<PoolAllocator, Shm> = DynamicViewBuilder::new(
-        &transport_name(),
-    );
-    match builder.open(alloc, reg, AccessMode::ReadWrite) {
+    match view_builder().open(alloc, reg, AccessMode::ReadWrite) {
         Ok(view) => Ok(view),
         Err(error) => Err(view_error(error)),
     }

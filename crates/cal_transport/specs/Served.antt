@@ -1,0 +1,21 @@
+-- What a run over a transport comes to, by its answer.
+use Rattle.std.specs.Prelude.{◌≡◌, ℕ, List, [], ◌∷◌, Option, None, IsSomeAnd, Result, Ok, Err}
+use Rattle.cal_transport.specs.declared.settings.Settings.{Settings}
+use Rattle.cal_transport.specs.declared.command.Command.{Command}
+use Rattle.cal_transport.specs.declared.reply.Reply.{Reply}
+use Rattle.cal_transport.specs.Ledger.{Ledger, first_ledger}
+use Rattle.cal_transport.specs.Run.{TakesMemory, after_steps}
+use Rattle.cal_transport.specs.State.{TransportState, Represents}
+
+-- memory ran out at a command that takes some, in every ledger that the transport stands for
+abbrev pub RunsOut : TransportState → Command → Type 0
+RunsOut t asked = (l : Ledger) → Represents t l → TakesMemory l asked
+
+-- the transport stands for the ledger to which the replies lead
+abbrev pub StandsAfter : Settings → List Command → List Reply → TransportState → Type 0
+StandsAfter settings commands replies t = Represents t (after_steps (first_ledger settings) 1 commands replies)
+
+-- the transport is left by a run with these replies, or by none where nothing was answered
+abbrev pub IsLeft : Settings → List Command → List Reply → Option TransportState → Type 0
+IsLeft settings commands [] end = end ≡ None
+IsLeft settings commands (reply ∷ replies) end = IsSomeAnd end (StandsAfter settings commands (reply ∷ replies))
