@@ -80,7 +80,7 @@ steps_settings l place (asked ∷ commands) (reply ∷ replies) =
 
 -- ---- names rise
 
-pub NamesBelow : Ledger → ℕ → Type 0
+unfoldable pub NamesBelow : Ledger → ℕ → Type 0
 NamesBelow l n = (i : ℕ) (chunk : Chunk) → slice_get l.chunks i ≡ Some chunk → chunk.name < n
 
 below_more : (l : Ledger) (n : ℕ) → NamesBelow l n → NamesBelow l (n + 1)

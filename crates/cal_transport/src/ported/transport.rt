@@ -105,7 +105,8 @@ impl Transport {
         let memory = new_memory(alloc, &mut memory_registry, &settings)?;
         let view = new_view(alloc, &mut memory_registry, &memory, &settings)?;
         let mut connection_registry = Registry::new(alloc);
-        let (sender, receiver) = new_ports(alloc, &mut connection_registry, &settings)?;
+        let ports = new_ports(alloc, &mut connection_registry, &settings)?;
+        let (sender, receiver) = ports;
         Ok(Transport {
             settings,
             memory_registry,
