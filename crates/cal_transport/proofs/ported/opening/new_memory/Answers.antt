@@ -28,7 +28,7 @@ returns-in-Ok c =
     record {
       made = record {
         alone = record {
-          sound = c.number_of_active_segments.ensures.sound;
+          sound = c.number_of_active_segments-sound.ensures.sound;
           has = c.in-Ok.ensures.has;
           holds = c.in-Ok.ensures.holds;
           names = c.in-Ok.ensures.names;
