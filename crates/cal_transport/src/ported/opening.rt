@@ -1,5 +1,5 @@
 //! What a transport is opened with: memory and a view under one name, both ports of a connection, and its tables.
-ghost use Rattle.std.specs.Prelude.{◌≡◌, ◌≤◌, ◌-◌, ◌∷◌, [], IfOk, map, replicate, vec_len, vec_capacity, vec_items, codes};
+ghost use Rattle.std.specs.Prelude.{◌≡◌, ◌≤◌, ◌-◌, ◌*◌, ◌∷◌, [], IfOk, map, replicate, vec_len, vec_capacity, vec_items, codes};
 ghost use Rattle.cal_queue.specs.UsedChunks.{none_used};
 ghost use Rattle.cal_storage.specs.Contents.{nothing_registered};
 ghost use Rattle.cal_transport.specs.Settings.{CanMake};
