@@ -1,6 +1,5 @@
 //! What a transport is opened with: memory and a view under one name, both ports of a connection, and its tables.
 ghost use Rattle.std.specs.Prelude.{◌≡◌, ◌≤◌, ◌-◌, ◌∷◌, [], IfOk, map, replicate, vec_len, vec_capacity, vec_items, codes};
-ghost use Rattle.cal_queue.specs.UsedChunks.{none_used};
 ghost use Rattle.cal_storage.specs.Contents.{nothing_registered};
 ghost use Rattle.cal_transport.specs.Settings.{CanMake};
 ghost use Rattle.cal_transport.specs.Opening.{CanOpen, IsNewMemory, AreNewTogether, AreNewPorts, connection_plan, memory_plan, view_plan, transport_name};
@@ -14,7 +13,6 @@ use crate::settings::Settings;
 use cal_alloc::{Layout, PoolAllocator};
 use cal_connection::{Builder, ZeroCopyConnectionBuilder, ZeroCopyCreationError};
 use cal_names::{FileName, NamedConceptBuilder};
-use cal_queue::used_chunk_list::UsedChunkList;
 use cal_resizable::together_laws::{a_new_memory_stands_alone, a_view_opens_what_was_created};
 use cal_resizable::{DynamicMemoryBuilder, DynamicViewBuilder};
 use cal_shm::{SharedMemoryCreateError, SharedMemoryOpenError};
@@ -39,23 +37,6 @@ pub(crate) fn owners_of_first(alloc: Global, count: usize) -> Result<Vec<Owners>
     let mut owners = Vec::with_capacity(alloc, MAX_NUMBER_OF_SEGMENTS)?;
     owners.push_reserved(vec![in alloc; 0; count]?);
     Ok(owners)
-}
-
-/// An empty list of lent buckets for each channel.
-pub(crate) fn lent_lists(
-    alloc: Global,
-    settings: &Settings,
-) -> Result<Vec<UsedChunkList>, AllocError>
-    requires can { CanOpen settings.now }
-    ensures none { IfOk result (λ lists. lists.items ≡
-        replicate settings.now.channels (none_used (settings.now.segments * settings.now.samples))) }
-{
-    let capacity = settings.segments as usize * settings.samples;
-    let mut lists = Vec::with_capacity(alloc, settings.channels)?;
-    for _ in 0..settings.channels {
-        lists.push_reserved(UsedChunkList::new(alloc, capacity)?);
-    }
-    Ok(lists)
 }
 
 /// The builder of the memory.
