@@ -45,8 +45,9 @@ fn memory_builder(settings: &Settings) -> DynamicMemoryBuilder<PoolAllocator, Sh
     ensures plan { result ≡ memory_plan settings.now }
 {
     let layout = Layout::new(settings.size, settings.alignment).unwrap();
-    let builder: DynamicMemoryBuilder<PoolAllocator, Shm> =
-        DynamicMemoryBuilder::new(&transport_name());
+    let builder: DynamicMemoryBuilder<PoolAllocator, Shm> = DynamicMemoryBuilder::new(
+        &transport_name(),
+    );
     builder
         .max_chunk_layout_hint(layout)
         .max_number_of_chunks_hint(settings.count)
