@@ -1,25 +1,17 @@
 -- From what a run of the program owes to when each status comes.
 use Rattle.std.proofs.Common.{◌≡◌, ℕ, suc, ◌+◌, ◌<◌, ◌≤◌, ◌⊎◌, inl, inr, Bool, true, false, ◌||◌, List, [], ◌∷◌, ◌++◌, length, Option, Some, None, Result, Ok, refl, sym, ap, subst, ◌∙◌, arith}
-use Rattle.std.specs.Prelude.{IsTrue, IfSome, MatchBool}
-use Rattle.std.specs.List.{list_any}
+use Rattle.std.specs.Prelude.{IsTrue, IfSome}
 use Rattle.std.specs.Io.KnownBytes.{Consumes, IsAtEnd}
 use Rattle.std.proofs.lemmas.Bool.{lt-ltb, le-ltb}
 use Rattle.std.proofs.lemmas.List.{append-nil, length-append}
-use Rattle.cal_transport.specs.declared.command.Command.{Command}
 use Rattle.cal_transport.specs.declared.reply.Reply.{Reply}
-use Rattle.cal_transport.specs.Settings.{create_cause}
-use Rattle.cal_transport.specs.Ledger.{Ledger, first_ledger}
-use Rattle.cal_transport.specs.Step.{after_step}
-use Rattle.cal_transport.specs.Built.{is_built}
-use Rattle.cal_transport.specs.declared.command.Command.TheVariants as command
-use Rattle.cal_transport.specs.Run.{StopsAt, StopsUnbuilt, IsCount, HasNoCount}
 use Rattle.cal_program.specs.declared.status.Status.{Status}
-use Rattle.cal_program.specs.declared.status.Status.TheVariants.{Done, BadScript, NotCreated, ReadFault, WriteFault, NoMemory, Usage, TooLong, NotBuilt}
+use Rattle.cal_program.specs.declared.status.Status.TheVariants.{Done, BadScript, NotCreated, ReadFault, WriteFault, NoMemory, Usage, TooLong}
 use Rattle.cal_program.specs.Script.{ParsedScript, script_of}
 use Rattle.cal_program.specs.ReplyText.{reply_lines}
 use Rattle.cal_program.specs.Streams.{SourceState, SinkState, Rose, PutsAll}
 use Rattle.cal_program.specs.ReadAll.{script_limit, ReadsAll}
-use Rattle.cal_program.specs.Outcome.{asks_for_run, status_text, script_status, due_status, IsOutcomeOfScript, IsOutcomeOfBytes, IsDue, IsWritten, EndsDue, is_unbuilt, IsDueOrExcused, AreRepliesTo}
+use Rattle.cal_program.specs.Outcome.{asks_for_run, status_text, script_status, due_status, IsOutcomeOfScript, IsOutcomeOfBytes, IsDue, IsWritten, EndsDue, IsDueOrExcused, AreRepliesTo}
 
 -- ---- the bytes that were read are those that the source told
 
@@ -56,50 +48,6 @@ due_status-usage : (words : List (List ℕ)) (bytes : List ℕ) → asks_for_run
     due_status words bytes ≡ Usage
 due_status-usage words bytes none = rw none refl
 
--- ---- which scripts are served
-
-any-first : (command : Command) (commands : List Command) → is_unbuilt command ≡ true →
-    list_any is_unbuilt (command ∷ commands) ≡ true
-any-first command commands e = rw e refl
-
-any-later : (command : Command) (commands : List Command) → list_any is_unbuilt commands ≡ true →
-    list_any is_unbuilt (command ∷ commands) ≡ true
-any-later command commands e =
-    rw e (elim (is_unbuilt command) as (λ b. (b || true) ≡ true) [ true ↦ refl | false ↦ refl ])
-
-stops-unbuilt : (l : Ledger) (place : ℕ) (commands : List Command) (replies : List Reply) →
-    StopsAt IsCount l place commands replies → list_any is_unbuilt commands ≡ true
-stops-unbuilt l place [] replies h = absurd h
-stops-unbuilt l place (asked ∷ commands) [] h = any-first asked commands (ap is_unbuilt h)
-stops-unbuilt l place (asked ∷ commands) (reply ∷ replies) h =
-    any-later asked commands (stops-unbuilt (after_step l place asked reply) (place + 1) commands replies h.1)
-
-no-count : (commands : List Command) → HasNoCount commands → list_any is_unbuilt commands ≡ false
-no-count [] h = refl
-no-count (command.Loan size alignment ∷ commands) h = no-count commands (λ place. h (suc place))
-no-count (command.Write chunk at bytes ∷ commands) h = no-count commands (λ place. h (suc place))
-no-count (command.Send channel chunk ∷ commands) h = no-count commands (λ place. h (suc place))
-no-count (command.Receive channel ∷ commands) h = no-count commands (λ place. h (suc place))
-no-count (command.Read channel chunk at len ∷ commands) h = no-count commands (λ place. h (suc place))
-no-count (command.Release channel chunk ∷ commands) h = no-count commands (λ place. h (suc place))
-no-count (command.Reclaim channel ∷ commands) h = no-count commands (λ place. h (suc place))
-no-count (command.Discard chunk ∷ commands) h = no-count commands (λ place. h (suc place))
-no-count (command.Count ∷ commands) h = absurd (h 0 refl)
-
-done-status : (script : ParsedScript) → create_cause script.settings ≡ None → is_built script.settings ≡ true →
-    HasNoCount script.commands → Done ≡ script_status (Ok script)
-done-status script created built h = rw (created, built, no-count script.commands h) refl
-
-stops-status : (script : ParsedScript) (replies : List Reply) (built : Bool) → create_cause script.settings ≡ None →
-    is_built script.settings ≡ built → StopsUnbuilt script.settings script.commands replies →
-    NotBuilt ≡ script_status (Ok script)
-stops-status script replies false created built h = rw (created, built) refl
-stops-status script replies true created built h =
-    let stops = subst (λ (b : Bool).
-    MatchBool b (StopsAt IsCount (first_ledger script.settings) 1 script.commands replies) (replies ≡ [])) built
-    h in
-    rw (created, built, stops-unbuilt (first_ledger script.settings) 1 script.commands replies stops) refl
-
 -- ---- what was judged of bytes that were read
 
 -- the status is that of the script, or it comes for want of memory
@@ -108,7 +56,7 @@ IsFair status found = (status ≡ script_status found) ⊎ (status ≡ NoMemory)
 
 answer-fair : (script : ParsedScript) (status : Status) (replies : List Reply) →
     IsOutcomeOfScript script status replies → IsFair status (Ok script)
-answer-fair script Done replies h = inl (done-status script h.0 h.1 h.2)
+answer-fair script Done replies h = inl (rw h.0 refl)
 answer-fair script (BadScript number) replies h = absurd h
 answer-fair script (NotCreated cause) replies h = inl (rw h.0 refl)
 answer-fair script ReadFault replies h = absurd h
@@ -116,7 +64,6 @@ answer-fair script WriteFault replies h = absurd h
 answer-fair script NoMemory replies h = inr refl
 answer-fair script Usage replies h = absurd h
 answer-fair script TooLong replies h = absurd h
-answer-fair script NotBuilt replies h = inl (stops-status script h.1.0 (is_built script.settings) h.0 refl h.1.1)
 
 script-fair : (bytes : List ℕ) (status : Status) (replies : List Reply) →
     ((script : ParsedScript) × (script_of bytes ≡ Ok script) × IsOutcomeOfScript script status replies) →
@@ -134,7 +81,6 @@ verdict-fair bytes ReadFault replies h = script-fair bytes ReadFault replies h
 verdict-fair bytes WriteFault replies h = script-fair bytes WriteFault replies h
 verdict-fair bytes Usage replies h = script-fair bytes Usage replies h
 verdict-fair bytes TooLong replies h = script-fair bytes TooLong replies h
-verdict-fair bytes NotBuilt replies h = script-fair bytes NotBuilt replies h
 
 -- ---- the status that is due
 
@@ -176,8 +122,6 @@ due-right words before now sink_before sink_now xs (NotCreated cause) replies te
     read-right words before now sink_before sink_now xs (NotCreated cause) replies tells h.0 h.1
 due-right words before now sink_before sink_now xs WriteFault replies tells h =
     read-right words before now sink_before sink_now xs WriteFault replies tells h.0 h.1
-due-right words before now sink_before sink_now xs NotBuilt replies tells h =
-    read-right words before now sink_before sink_now xs NotBuilt replies tells h.0 h.1
 
 -- ---- the status that the program ends with
 
@@ -191,7 +135,6 @@ written-status before now text due ReadFault h = inr (h.1, h.0)
 written-status before now text due NoMemory h = inr (h.1, h.0)
 written-status before now text due Usage h = inr (h.1, h.0)
 written-status before now text due TooLong h = inr (h.1, h.0)
-written-status before now text due NotBuilt h = inr (h.1, h.0)
 
 right-told : (words : List (List ℕ)) (before now : SourceState) (sink_before sink_now : SinkState) (status : Status)
     (replies : List Reply) (xs : List ℕ) → before.left ≡ Some xs →
@@ -241,7 +184,7 @@ done-told : (words : List (List ℕ)) (before now : SourceState) (replies : List
     before.left ≡ Some xs → IsDue words before now Done replies → AreRepliesTo xs replies
 done-told words before now replies xs tells h =
     let same : xs ≡ h.1.0 = whole-told before.left now.left xs h.1.0 tells h.1.1.taken.front h.1.1.ended in
-    subst (λ (bytes : List ℕ). AreRepliesTo bytes replies) (sym same) (h.1.2.0, h.1.2.1, h.1.2.2.3)
+    subst (λ (bytes : List ℕ). AreRepliesTo bytes replies) (sym same) (h.1.2.0, h.1.2.1, h.1.2.2.1)
 
 pub EndsDue-done : (words : List (List ℕ)) (before now : SourceState) (sink_before sink_now : SinkState)
     (status : Status) (replies : List Reply) → EndsDue words before now sink_before sink_now status replies →

@@ -1,16 +1,12 @@
 -- What a run of the program owes: the status, the replies that it hands out, and the text that it writes.
 use Rattle.std.specs.Prelude.{ℕ, ◌≡◌, Bool, true, false, nat_lt, IsTrue, not, ◌&&◌, if◌then◌else◌, ◌⊎◌, List, [], ◌++◌, length, Option, Some, None, Result, Ok, Err, decimal, codes}
-use Rattle.std.specs.List.{list_any}
 use Rattle.cal_transport.specs.declared.settings.CreateCause.{CreateCause}
 use Rattle.cal_transport.specs.declared.settings.CreateCause.TheVariants.{BadLayout, SizeOutOfRange, SizeIsZero, InternalError}
-use Rattle.cal_transport.specs.declared.command.Command.{Command}
-use Rattle.cal_transport.specs.declared.command.Command.TheVariants as command
 use Rattle.cal_transport.specs.declared.reply.Reply.{Reply}
 use Rattle.cal_transport.specs.Settings.{create_cause}
-use Rattle.cal_transport.specs.Built.{is_built}
-use Rattle.cal_transport.specs.Run.{IsRun, HasNoCount, StopsForMemory, StopsUnbuilt}
+use Rattle.cal_transport.specs.Run.{IsRun, StopsForMemory}
 use Rattle.cal_program.specs.declared.status.Status.{Status}
-use Rattle.cal_program.specs.declared.status.Status.TheVariants.{Done, BadScript, NotCreated, ReadFault, WriteFault, NoMemory, Usage, TooLong, NotBuilt}
+use Rattle.cal_program.specs.declared.status.Status.TheVariants.{Done, BadScript, NotCreated, ReadFault, WriteFault, NoMemory, Usage, TooLong}
 use Rattle.cal_program.specs.Words.{is_only_word}
 use Rattle.cal_program.specs.Script.{ParsedScript, script_of}
 use Rattle.cal_program.specs.ReplyText.{line, reply_lines}
@@ -41,7 +37,6 @@ status_code WriteFault = 4
 status_code NoMemory = 5
 status_code Usage = 6
 status_code TooLong = 7
-status_code NotBuilt = 8
 
 -- what a status has written, with the replies that it hands out
 abbrev pub status_text : Status → List Reply → List ℕ
@@ -53,28 +48,17 @@ status_text WriteFault replies = []
 status_text NoMemory replies = []
 status_text Usage replies = line (codes "usage: run, make NUMBER ROUNDS, relay BUFFER COUNT")
 status_text TooLong replies = line (codes "too long")
-status_text NotBuilt replies = line (codes "not built")
 
 -- ---- the status that words and bytes are due, where nothing fails
 
--- the command isn't built yet
-abbrev pub is_unbuilt : Command → Bool
-is_unbuilt command.Count = true
-is_unbuilt asked = false
-
--- the settings and all commands are built
-abbrev pub is_served : ParsedScript → Bool
-is_served script = is_built script.settings && not (list_any is_unbuilt script.commands)
-
--- why no transport can be made with these settings; else whether the script is built
-abbrev pub settings_status : Option CreateCause → Bool → Status
-settings_status (Some cause) served = NotCreated cause
-settings_status None true = Done
-settings_status None false = NotBuilt
+-- why no transport can be made with a script's settings; else the run is done
+abbrev pub settings_status : Option CreateCause → Status
+settings_status (Some cause) = NotCreated cause
+settings_status None = Done
 
 abbrev pub script_status : Result ParsedScript ℕ → Status
 script_status (Err number) = BadScript number
-script_status (Ok script) = settings_status (create_cause script.settings) (is_served script)
+script_status (Ok script) = settings_status (create_cause script.settings)
 
 abbrev pub due_status : List (List ℕ) → List ℕ → Status
 due_status words bytes =
@@ -86,15 +70,10 @@ due_status words bytes =
 -- The transport answered a script so.
 abbrev pub IsOutcomeOfScript : ParsedScript → Status → List Reply → Type 0
 IsOutcomeOfScript script Done replies =
-    (create_cause script.settings ≡ None) × IsTrue (is_built script.settings) × HasNoCount script.commands ×
-    IsRun script.settings script.commands replies
+    (create_cause script.settings ≡ None) × IsRun script.settings script.commands replies
 IsOutcomeOfScript script (NotCreated cause) replies = (create_cause script.settings ≡ Some cause) × (replies ≡ [])
-IsOutcomeOfScript script NotBuilt replies =
-    (create_cause script.settings ≡ None) ×
-    ((answered : List Reply) × StopsUnbuilt script.settings script.commands answered) × (replies ≡ [])
 IsOutcomeOfScript script NoMemory replies =
-    (create_cause script.settings ≡ None) × IsTrue (is_built script.settings) × StopsForMemory script.settings
-    script.commands replies
+    (create_cause script.settings ≡ None) × StopsForMemory script.settings script.commands replies
 IsOutcomeOfScript script other replies = ⊥
 
 -- These bytes were read to their end, and judged so.

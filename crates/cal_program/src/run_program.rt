@@ -32,8 +32,8 @@ pub fn run_program<R: Source, W: Sink>(
     ensures written { result.status ≡ Status.Done →
         PutsAll (W.state sink.old) (W.state sink.new) (reply_lines result.replies.items) }
 
-    // Each status comes exactly where it is due, but for faults and out of memory. So a valid script that is served is
-    // done, unless memory runs out or the source or the sink fails.
+    // Each status comes exactly where it is due, but for faults and out of memory. So a valid script is done, unless
+    // memory runs out or the source or the sink fails.
     ensures exact { IfSome (R.state source.old).left (λ bytes. IsDueOrExcused (map string_bytes words.now) bytes
         (R.state source.old) (R.state source.new) (W.state sink.old) (W.state sink.new) result.status) }
 {
@@ -101,7 +101,6 @@ fn outcome_of_script(alloc: Global, script: &Script) -> Outcome
             replies,
         },
         Err(RunError::Create(cause)) => without_replies(alloc, Status::NotCreated { cause }),
-        Err(RunError::NotBuilt(_)) => without_replies(alloc, Status::NotBuilt),
     }
 }
 

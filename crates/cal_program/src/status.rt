@@ -24,8 +24,6 @@ pub enum Status {
     Usage,
     /// The source has more bytes than a script may have.
     TooLong,
-    /// The script's settings, or one of its commands, aren't served yet.
-    NotBuilt,
 }
 
 impl Status {
@@ -42,7 +40,6 @@ impl Status {
             Status::NoMemory => 5,
             Status::Usage => 6,
             Status::TooLong => 7,
-            Status::NotBuilt => 8,
         }
     }
 }
