@@ -2,6 +2,7 @@ pub mod Acquiring
 pub mod Channels
 pub mod New
 pub mod Port
+pub mod PortLemmas
 pub mod Receiving
 pub mod Rest
 pub mod Sending

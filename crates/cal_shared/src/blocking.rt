@@ -1,5 +1,6 @@
 //! The blocking send, turn by turn.
 ghost use Rattle.std.specs.Prelude.{◌≡◌, ℕ, ◌<◌, ◌^◌};
+ghost use Rattle.cal_shared.specs.Port.{pair_of_sender};
 ghost use Rattle.cal_shared.specs.Sending.{IsSendable};
 ghost use Rattle.cal_shared.specs.Turns.{SeesObstacle, SendsBlocking, SomeTurns};
 
@@ -16,6 +17,7 @@ impl SharedPort<SendingEnd> {
     fn look(&mut self, channel_id: ChannelId) -> Obstacle
         requires channel { channel_id < self.old.settings.number_of_channels }
         ensures seen { SeesObstacle channel_id result self.old self.new }
+        ensures pair { pair_of_sender self.new ≡ pair_of_sender self.old }
     {
         let is_connected = self.is_connected();
         let is_closed = self.is_channel_closed(channel_id);
@@ -45,6 +47,7 @@ impl SharedPort<SendingEnd> {
         ensures turns { SomeTurns (λ retry answer.
             (ticks : ℕ) × (ticks < 2 ^ 64) × F.post handler.now retry ticks answer)
             strategy channel_id result self.old self.new }
+        ensures pair { pair_of_sender self.new ≡ pair_of_sender self.old }
     {
         let start = clock.ticks();
         let mut retry = 0u64;
@@ -92,6 +95,7 @@ impl SharedPort<SendingEnd> {
         ensures sent { SendsBlocking (λ retry answer.
             (ticks : ℕ) × (ticks < 2 ^ 64) × F.post handler retry ticks answer)
             action channel_id self.old.settings.enable_safe_overflow ptr sample_size result self.old self.new }
+        ensures pair { pair_of_sender self.new ≡ pair_of_sender self.old }
     {
         if !self.has_enabled_safe_overflow() && !self.has_room(channel_id) {
             self.take_turns(rt, channel_id, &handler, action, clock)?;

@@ -3,7 +3,7 @@
 ghost use Rattle.std.specs.Prelude.{◌≡◌, ◌<◌};
 ghost use Rattle.cal_queue.specs.StateTable.{IsPortWord, IsWitnessed, channel_index, port_index};
 ghost use Rattle.cal_connection.specs.Words.{has_hint, has_state, is_closed, is_connected};
-ghost use Rattle.cal_shared.specs.Port.{AtWords};
+ghost use Rattle.cal_shared.specs.Port.{AtWords, pair_of};
 ghost use Rattle.cal_shared.specs.Words.{ClosesChannel, Leaves, LoadsWord, SetsHint, SetsState};
 
 use crate::shared_port::{PortEnd, SharedPort};
@@ -15,6 +15,7 @@ impl<E: PortEnd> SharedPort<E> {
     /// Whether both ports are there, by one load.
     pub fn is_connected(&mut self) -> bool
         ensures loaded { AtWords (LoadsWord port_index is_connected result) self.old self.new }
+        ensures pair { pair_of E.rings self.new ≡ pair_of E.rings self.old }
         ensures witnessed { IsWitnessed self.new.states }
     {
         words::is_connected(self.states.load_port())
@@ -24,6 +25,7 @@ impl<E: PortEnd> SharedPort<E> {
     pub fn channel_state(&mut self, channel_id: ChannelId) -> u64
         requires channel { channel_id < self.old.settings.number_of_channels }
         ensures loaded { AtWords (LoadsWord (channel_index channel_id) (λ word. word) result) self.old self.new }
+        ensures pair { pair_of E.rings self.new ≡ pair_of E.rings self.old }
         ensures witnessed { IsWitnessed self.new.states }
     {
         self.states.load_channel(channel_id.value())
@@ -33,9 +35,10 @@ impl<E: PortEnd> SharedPort<E> {
     pub fn is_channel_closed(&mut self, channel_id: ChannelId) -> bool
         requires channel { channel_id < self.old.settings.number_of_channels }
         ensures loaded { AtWords (LoadsWord (channel_index channel_id) is_closed result) self.old self.new }
+        ensures pair { pair_of E.rings self.new ≡ pair_of E.rings self.old }
         ensures witnessed { IsWitnessed self.new.states }
     {
-        words::is_closed(self.states.load_channel(channel_id.value()))
+        words::is_closed(self.channel_state(channel_id))
     }
 
     /// Whether a channel is in this state and the other side is asked to disconnect, by one load.
@@ -43,9 +46,10 @@ impl<E: PortEnd> SharedPort<E> {
         requires channel { channel_id < self.old.settings.number_of_channels }
         ensures loaded { AtWords (LoadsWord (channel_index channel_id) (λ word. has_hint word state) result)
             self.old self.new }
+        ensures pair { pair_of E.rings self.new ≡ pair_of E.rings self.old }
         ensures witnessed { IsWitnessed self.new.states }
     {
-        words::has_hint(self.states.load_channel(channel_id.value()), state.value())
+        words::has_hint(self.channel_state(channel_id), state.value())
     }
 
     /// Whether a channel is in this state, whether or not the other side is asked to disconnect, by one load. So it is
@@ -54,15 +58,17 @@ impl<E: PortEnd> SharedPort<E> {
         requires channel { channel_id < self.old.settings.number_of_channels }
         ensures loaded { AtWords (LoadsWord (channel_index channel_id) (λ word. has_state word state) result)
             self.old self.new }
+        ensures pair { pair_of E.rings self.new ≡ pair_of E.rings self.old }
         ensures witnessed { IsWitnessed self.new.states }
     {
-        words::has_state(self.states.load_channel(channel_id.value()), state.value())
+        words::has_state(self.channel_state(channel_id), state.value())
     }
 
     /// Puts a closed channel into this state by one exchange, and answers whether it was closed.
     pub fn set_channel_state(&mut self, channel_id: ChannelId, state: ChannelState) -> bool
         requires channel { channel_id < self.old.settings.number_of_channels }
         ensures exchanged { AtWords (SetsState channel_id state result) self.old self.new }
+        ensures pair { pair_of E.rings self.new ≡ pair_of E.rings self.old }
         ensures witnessed { IsWitnessed self.new.states }
     {
         self.states
@@ -74,6 +80,7 @@ impl<E: PortEnd> SharedPort<E> {
     pub fn set_disconnect_hint(&mut self, channel_id: ChannelId, state: ChannelState)
         requires channel { channel_id < self.old.settings.number_of_channels }
         ensures exchanged { AtWords (SetsHint channel_id state) self.old self.new }
+        ensures pair { pair_of E.rings self.new ≡ pair_of E.rings self.old }
         ensures witnessed { IsWitnessed self.new.states }
     {
         let state = state.value();
@@ -87,6 +94,7 @@ impl<E: PortEnd> SharedPort<E> {
     pub fn close_channel(&mut self, channel_id: ChannelId, state: ChannelState)
         requires channel { channel_id < self.old.settings.number_of_channels }
         ensures exchanged { AtWords (ClosesChannel channel_id state) self.old self.new }
+        ensures pair { pair_of E.rings self.new ≡ pair_of E.rings self.old }
         ensures witnessed { IsWitnessed self.new.states }
     {
         let channel = channel_id.value();
@@ -104,6 +112,7 @@ impl<E: PortEnd> SharedPort<E> {
     /// whether it was. A port that has left already changes nothing. It tries again where the other port came between.
     pub fn leave<R: Wait>(&mut self, rt: &R) -> bool
         ensures left { AtWords (Leaves E.bit result) self.old self.new }
+        ensures pair { pair_of E.rings self.new ≡ pair_of E.rings self.old }
         ensures witnessed { IsWitnessed self.new.states }
     {
         self.states.leave(rt, E::port_bit())

@@ -51,6 +51,8 @@ impl PortEnd for ReceivingEnd {
 
     ghost bit = { receiver_bit };
 
+    ghost rings = { λ e. e.rings };
+
     fn port_bit() -> u8 {
         RECEIVER_BIT
     }
@@ -95,13 +97,11 @@ impl ReceivingEnd {
         ensures received_first { length self.new.completion.put ≤ length self.new.submission.received }
         ensures no_more_borrowed { borrow_count self.new ≤ borrow_count self.old }
     {
-        match self.completion.push(ptr.as_value()) {
-            Ok(()) => {
-                self.borrow_count -= 1;
-                Ok(())
-            }
-            Err(refusal) => Err(release_error(refusal)),
+        if let Err(refusal) = self.completion.push(ptr.as_value()) {
+            return Err(release_error(refusal));
         }
+        self.borrow_count -= 1;
+        Ok(())
     }
 
     /// Whether an offset is queued, by one look.

@@ -57,6 +57,8 @@ impl PortEnd for SendingEnd {
 
     ghost bit = { sender_bit };
 
+    ghost rings = { λ e. e.rings };
+
     fn port_bit() -> u8 {
         SENDER_BIT
     }
@@ -86,17 +88,16 @@ impl SendingEnd {
             < capacity_of (segment_at self.old.segments (segment_of ptr)).used }
         ensures sent { TriesToSend overflow ptr sample_size result self.old self.new }
     {
-        match self.submission.push(ptr.as_value(), overflow) {
-            Ok(back) => {
-                enter(&mut self.segments, ptr, sample_size);
-                judge(
-                    &mut self.segments,
-                    back,
-                    ZeroCopySendError::ConnectionCorrupted,
-                )
-            }
-            Err(refusal) => Err(send_error(refusal)),
-        }
+        let back = match self.submission.push(ptr.as_value(), overflow) {
+            Ok(back) => back,
+            Err(refusal) => return Err(send_error(refusal)),
+        };
+        enter(&mut self.segments, ptr, sample_size);
+        judge(
+            &mut self.segments,
+            back,
+            ZeroCopySendError::ConnectionCorrupted,
+        )
     }
 
     /// Whether fewer offsets are queued than may be, by one look.

@@ -3,6 +3,7 @@
 ghost use Rattle.std.specs.Prelude.{◌≡◌, ℕ, ◌%◌, ◌<◌, ◌≤◌};
 ghost use Rattle.cal_queue.specs.StateTable.{IsPortBit};
 ghost use Rattle.cal_connection.specs.Settings.{IsClamped};
+ghost use Rattle.cal_shared.specs.Channels.{Rings};
 ghost use Rattle.cal_connection.specs.declared.settings.ConnectionSettings.{ConnectionSettings};
 
 use cal_alloc::SegmentId;
@@ -17,6 +18,9 @@ pub trait PortEnd: Drop {
 
     // The bit of the port in the word that says which ports are there.
     ghost bit: { ℕ };
+
+    // The rings of the channel.
+    ghost rings: { Self → Rings };
 
     /// The bit of the port in the word that says which ports are there.
     fn port_bit() -> u8

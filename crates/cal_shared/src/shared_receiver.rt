@@ -1,6 +1,6 @@
 //! The receiving port of a pair.
 ghost use Rattle.std.specs.Prelude.{◌≡◌, ◌<◌};
-ghost use Rattle.cal_shared.specs.Port.{OnChannel};
+ghost use Rattle.cal_shared.specs.Port.{OnChannel, pair_of_receiver};
 ghost use Rattle.cal_shared.specs.Receiving.{LooksForData, Receives, Releases, borrow_count_at};
 
 use crate::receiving_end::ReceivingEnd;
@@ -23,6 +23,7 @@ impl SharedPort<ReceivingEnd> {
         requires channel { channel_id < self.old.settings.number_of_channels }
         ensures received { OnChannel channel_id
             (Receives self.old.settings.max_borrowed_samples result) self.old self.new }
+        ensures pair { pair_of_receiver self.new ≡ pair_of_receiver self.old }
     {
         let limit = self.settings.max_borrowed_samples;
         self.channels[channel_id.value()].receive(rt, limit)
@@ -38,6 +39,7 @@ impl SharedPort<ReceivingEnd> {
         requires channel { channel_id < self.old.settings.number_of_channels }
         requires borrowed { 0 < borrow_count_at self.old channel_id }
         ensures released { OnChannel channel_id (Releases ptr result) self.old self.new }
+        ensures pair { pair_of_receiver self.new ≡ pair_of_receiver self.old }
     {
         self.channels[channel_id.value()].release(ptr)
     }
@@ -47,6 +49,7 @@ impl SharedPort<ReceivingEnd> {
     pub fn has_data(&mut self, channel_id: ChannelId) -> bool
         requires channel { channel_id < self.old.settings.number_of_channels }
         ensures looked { OnChannel channel_id (LooksForData result) self.old self.new }
+        ensures pair { pair_of_receiver self.new ≡ pair_of_receiver self.old }
     {
         self.channels[channel_id.value()].has_data()
     }

@@ -3,7 +3,7 @@ ghost use Rattle.std.specs.Prelude.{◌≡◌, ◌<◌, ◌≤◌, ◌/◌, map,
 ghost use Rattle.cal_queue.specs.Callback.{MayRunOver, RunsOver};
 ghost use Rattle.cal_shared.specs.Acquiring.{IsAcquirable, after_acquiring, used_on_channels};
 ghost use Rattle.cal_shared.specs.Channels.{SendingChannel};
-ghost use Rattle.cal_shared.specs.Port.{OnChannel};
+ghost use Rattle.cal_shared.specs.Port.{OnChannel, pair_of_sender};
 ghost use Rattle.cal_shared.specs.Sending.{IsSendable, IsWithin, Reclaims, SeesFull, SeesRoom, TriesToSend, is_in_use};
 
 use crate::acquisition::{call_on_channels, empty_channels};
@@ -29,6 +29,7 @@ impl SharedPort<SendingEnd> {
         requires sendable { IsSendable self.old channel_id ptr sample_size }
         ensures sent { OnChannel channel_id
             (TriesToSend self.old.settings.enable_safe_overflow ptr sample_size result) self.old self.new }
+        ensures pair { pair_of_sender self.new ≡ pair_of_sender self.old }
     {
         let overflow = self.settings.enable_safe_overflow;
         self.channels[channel_id.value()].try_send(overflow, ptr, sample_size)
@@ -50,6 +51,7 @@ impl SharedPort<SendingEnd> {
     ) -> Result<Option<PointerOffset>, ZeroCopyReclaimError>
         requires channel { channel_id < self.old.settings.number_of_channels }
         ensures reclaimed { OnChannel channel_id (Reclaims result) self.old self.new }
+        ensures pair { pair_of_sender self.new ≡ pair_of_sender self.old }
     {
         self.channels[channel_id.value()].reclaim()
     }
@@ -59,6 +61,7 @@ impl SharedPort<SendingEnd> {
         requires channel { channel_id < self.old.settings.number_of_channels }
         ensures looked { MatchBool result (OnChannel channel_id SeesRoom self.old self.new)
             (OnChannel channel_id SeesFull self.old self.new) }
+        ensures pair { pair_of_sender self.new ≡ pair_of_sender self.old }
     {
         self.channels[channel_id.value()].has_room()
     }
@@ -72,6 +75,7 @@ impl SharedPort<SendingEnd> {
         requires callable { MayRunOver F.FnMut callback (used_on_channels self.old.channels) }
         ensures called { RunsOver F.FnMut callback (used_on_channels self.old.channels) }
         ensures acquired { self.new ≡ after_acquiring self.old }
+        ensures pair { pair_of_sender self.new ≡ pair_of_sender self.old }
     {
         call_on_channels(&self.channels, callback);
         empty_channels(&mut self.channels);
