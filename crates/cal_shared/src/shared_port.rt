@@ -2,8 +2,8 @@
 //! words.
 ghost use Rattle.std.specs.Prelude.{◌≡◌, ℕ, ◌%◌, ◌<◌, ◌≤◌};
 ghost use Rattle.cal_queue.specs.StateTable.{IsPortBit};
-ghost use Rattle.cal_connection.specs.Settings.{IsClamped};
 ghost use Rattle.cal_shared.specs.Channels.{Rings};
+ghost use Rattle.cal_shared.specs.Port.{IsSoundPort};
 ghost use Rattle.cal_connection.specs.declared.settings.ConnectionSettings.{ConnectionSettings};
 
 use cal_alloc::SegmentId;
@@ -64,7 +64,7 @@ impl<E: PortEnd> SharedPort<E> {
     /// What the connection was made with. No setting is zero.
     pub fn settings(&self) -> &ConnectionSettings
         ensures value { result.now ≡ self.now.settings }
-        ensures clamped { IsClamped result.now }
+        ensures sound { IsSoundPort E.Fits self.now }
     {
         &self.settings
     }

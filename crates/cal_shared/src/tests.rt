@@ -1,3 +1,4 @@
+mod acquisitions;
 mod blocking_sends;
 mod calls;
 mod channel_words;

@@ -1,8 +1,7 @@
 //! Blocking sends on one thread: on a full channel, each end of the turns and each answer of a handler.
-ghost use Rattle.std.specs.Prelude.{◌≡◌, ℕ, ◌<◌, ◌^◌};
-ghost use Rattle.cal_shared.specs.Port.{pair_of_sender};
+ghost use Rattle.std.specs.Prelude.{ℕ, ◌<◌, ◌^◌};
 
-use crate::tests::calls::{pair, send, settings};
+use crate::tests::calls::{may_send, pair, send, settings};
 use crate::{SharedReceiver, SharedSender};
 use cal_alloc::PointerOffset;
 use cal_connection::{
@@ -50,13 +49,8 @@ fn send_blocking<R: Abort + Wait, F: Fn(u64, u64) -> BackpressureToReceiverActio
     requires { (retry ticks : ℕ) → retry < 2 ^ 64 → ticks < 2 ^ 64 → F.pre handler retry ticks }
 {
     let ptr = PointerOffset::new(8);
-    let channel = ChannelId::new(0);
-    let settings = *sender.settings();
-    assert!(rt; ptr.offset() % 8 == 0);
-    assert!(rt; ptr.segment_id().value() < settings.number_of_segments);
-    assert!(rt; ptr.offset() / 8 < settings.number_of_samples);
-    assert!(rt; !sender.is_in_use(ptr, 8, channel));
-    sender.blocking_send(rt, ptr, 8, channel, handler, action, clock)
+    assert!(rt; may_send(sender, ptr, 8, 0));
+    sender.blocking_send(rt, ptr, 8, ChannelId::new(0), handler, action, clock)
 }
 
 #[test]

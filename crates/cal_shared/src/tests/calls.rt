@@ -1,7 +1,7 @@
 //! Calls of both ports of a pair that look first whether their conditions hold, for the tests.
 ghost use Rattle.std.specs.Prelude.{◌≡◌, true, IfOk};
-ghost use Rattle.cal_shared.specs.Port.{IsOnePair, SendingPort, pair_of_receiver, pair_of_sender};
-ghost use Rattle.cal_shared.specs.Sending.{IsSendable};
+ghost use Rattle.cal_shared.specs.Port.{IsOnePair, pair_of_receiver, pair_of_sender};
+ghost use Rattle.cal_shared.specs.Sending.{IsSendable, IsWithin};
 
 use crate::{PortSettings, SharedReceiver, SharedSender, shared_pair};
 use cal_alloc::PointerOffset;
@@ -42,9 +42,9 @@ pub(crate) fn pair(
     Ok(shared_pair(alloc, settings)?)
 }
 
-/// Whether an offset may be sent on a channel.
-fn may_send(sender: &SharedSender, ptr: PointerOffset, sample_size: usize, channel: usize) -> bool
-    ensures sendable { result ≡ true → IsSendable sender.now channel ptr sample_size }
+/// Whether the sample of an offset, of that size in bytes, is one that a channel can name.
+fn may_name(sender: &SharedSender, ptr: PointerOffset, sample_size: usize, channel: usize) -> bool
+    ensures within { result ≡ true → IsWithin sender.now.settings channel ptr sample_size }
 {
     let settings = sender.settings();
     channel < settings.number_of_channels
@@ -52,7 +52,30 @@ fn may_send(sender: &SharedSender, ptr: PointerOffset, sample_size: usize, chann
         && ptr.offset() % sample_size == 0
         && ptr.segment_id().value() < settings.number_of_segments
         && ptr.offset() / sample_size < settings.number_of_samples
+}
+
+/// Whether an offset may be sent on a channel.
+pub(crate) fn may_send(
+    sender: &SharedSender,
+    ptr: PointerOffset,
+    sample_size: usize,
+    channel: usize,
+) -> bool
+    ensures sendable { result ≡ true → IsSendable sender.now channel ptr sample_size }
+{
+    may_name(sender, ptr, sample_size, channel)
         && !sender.is_in_use(ptr, sample_size, ChannelId::new(channel))
+}
+
+/// Whether the sample of an offset, of 8 bytes, is in use on a channel.
+pub(crate) fn is_in_use(
+    rt: &impl Abort,
+    sender: &SharedSender,
+    ptr: PointerOffset,
+    channel: usize,
+) -> bool {
+    assert!(rt; may_name(sender, ptr, 8, channel));
+    sender.is_in_use(ptr, 8, ChannelId::new(channel))
 }
 
 /// Sends an offset of a sample of 8 bytes on a channel.
@@ -105,4 +128,10 @@ pub(crate) fn release(
     assert!(rt; channel < receiver.number_of_channels());
     assert!(rt; receiver.borrow_count(channel_id) > 0);
     receiver.release(ptr, channel_id)
+}
+
+/// How many offsets are borrowed from a channel.
+pub(crate) fn borrow_count(rt: &impl Abort, receiver: &SharedReceiver, channel: usize) -> usize {
+    assert!(rt; channel < receiver.number_of_channels());
+    receiver.borrow_count(ChannelId::new(channel))
 }

@@ -1,18 +1,20 @@
 //! Worked examples of what goes over a channel, on one thread.
-ghost use Rattle.cal_shared.specs.Port.{pair_of_receiver, pair_of_sender};
+ghost use Rattle.cal_shared.specs.Port.{IsOnePair};
 
-use crate::tests::calls::{pair, receive, reclaim, release, send, settings};
+use crate::tests::calls::{
+    borrow_count, is_in_use, pair, receive, reclaim, release, send, settings,
+};
 use crate::{PortRest, PortSettings, SharedReceiver, SharedSender, rest};
 use cal_alloc::{PointerOffset, SegmentId};
 use cal_connection::{
-    ChannelId, ZeroCopyReceiveError, ZeroCopyReclaimError, ZeroCopyReleaseError, ZeroCopySendError,
+    ZeroCopyReceiveError, ZeroCopyReclaimError, ZeroCopyReleaseError, ZeroCopySendError,
 };
 use std::process::Abort;
 use std::test::Fail;
 
 /// Counts what went over the channel of a pair that has one.
 fn rest_of(rt: &impl Abort, sender: SharedSender, receiver: SharedReceiver) -> PortRest
-    requires { pair_of_sender sender ≡ pair_of_receiver receiver }
+    requires { IsOnePair sender receiver }
 {
     assert!(rt; sender.number_of_channels() == 1);
     rest(sender, receiver)
@@ -25,7 +27,7 @@ fn a_full_queue_gives_the_oldest_back(rt: HostRuntime) -> Result<(), Fail> {
     let second = PointerOffset::new(8);
     assert_eq!(rt; send(&rt, &mut sender, first, 0), Ok(None));
     assert_eq!(rt; send(&rt, &mut sender, second, 0), Ok(Some(first)));
-    assert!(rt; !sender.is_in_use(first, 8, ChannelId::new(0)));
+    assert!(rt; !is_in_use(&rt, &sender, first, 0));
     assert_eq!(rt; receive(&rt, &mut receiver, 0), Ok(Some(second)));
     let all = PortRest {
         sent: 2,
@@ -49,7 +51,7 @@ fn a_full_queue_refuses_without_overflow(rt: HostRuntime) -> Result<(), Fail> {
         send(&rt, &mut sender, second, 0),
         Err(ZeroCopySendError::ReceiveBufferFull)
     );
-    assert!(rt; !sender.is_in_use(second, 8, ChannelId::new(0)));
+    assert!(rt; !is_in_use(&rt, &sender, second, 0));
     assert_eq!(rt; receive(&rt, &mut receiver, 0), Ok(Some(first)));
     assert_eq!(rt; send(&rt, &mut sender, second, 0), Ok(None));
     Ok(())
@@ -64,7 +66,7 @@ fn an_offset_comes_back_once_it_is_released(rt: HostRuntime) -> Result<(), Fail>
     assert_eq!(rt; reclaim(&rt, &mut sender, 0), Ok(None));
     assert_eq!(rt; release(&rt, &mut receiver, only, 0), Ok(()));
     assert_eq!(rt; reclaim(&rt, &mut sender, 0), Ok(Some(only)));
-    assert!(rt; !sender.is_in_use(only, 8, ChannelId::new(0)));
+    assert!(rt; !is_in_use(&rt, &sender, only, 0));
     let all = PortRest {
         sent: 1,
         received: 1,
@@ -101,30 +103,7 @@ fn a_foreign_segment_is_refused_and_gone(rt: HostRuntime) -> Result<(), Fail> {
     let corrupted = Err(ZeroCopyReclaimError::ReceiverReturnedCorruptedPointerOffset);
     assert_eq!(rt; reclaim(&rt, &mut sender, 0), corrupted);
     assert_eq!(rt; reclaim(&rt, &mut sender, 0), Ok(None));
-    assert!(rt; sender.is_in_use(own, 8, ChannelId::new(0)));
-    Ok(())
-}
-
-#[test]
-fn acquired_samples_are_told_once(rt: HostRuntime) -> Result<(), Fail> {
-    let (mut sender, mut receiver) = pair(rt.alloc(), &settings(1, 1, 1, true))?;
-    let own = PointerOffset::new(0);
-    assert_eq!(rt; send(&rt, &mut sender, own, 0), Ok(None));
-    let mut count = 0u64;
-    sender.acquire_used_offsets(|_| count = count.wrapping_add(1));
-    assert_eq!(rt; count, 1);
-    assert_eq!(rt; send(&rt, &mut sender, own, 0), Ok(Some(own)));
-    assert!(rt; receiver.has_data(ChannelId::new(0)));
-    Ok(())
-}
-
-#[test]
-fn an_overflowed_offset_that_was_acquired_is_refused(rt: HostRuntime) -> Result<(), Fail> {
-    let (mut sender, _receiver) = pair(rt.alloc(), &settings(1, 1, 2, true))?;
-    assert_eq!(rt; send(&rt, &mut sender, PointerOffset::new(0), 0), Ok(None));
-    sender.acquire_used_offsets(|_| {});
-    let answer = send(&rt, &mut sender, PointerOffset::new(8), 0);
-    assert_eq!(rt; answer, Err(ZeroCopySendError::ConnectionCorrupted));
+    assert!(rt; is_in_use(&rt, &sender, own, 0));
     Ok(())
 }
 
@@ -145,7 +124,7 @@ fn a_full_completion_ring_refuses(rt: HostRuntime) -> Result<(), Fail> {
         release(&rt, &mut receiver, last, 0),
         Err(ZeroCopyReleaseError::RetrieveBufferFull)
     );
-    assert_eq!(rt; receiver.borrow_count(ChannelId::new(0)), 1);
+    assert_eq!(rt; borrow_count(&rt, &receiver, 0), 1);
     Ok(())
 }
 
@@ -160,7 +139,7 @@ fn channels_are_apart(rt: HostRuntime) -> Result<(), Fail> {
     let ptr = PointerOffset::new(0);
     assert_eq!(rt; send(&rt, &mut sender, ptr, 1), Ok(None));
     assert_eq!(rt; receive(&rt, &mut receiver, 0), Ok(None));
-    assert!(rt; !sender.is_in_use(ptr, 8, ChannelId::new(0)));
+    assert!(rt; !is_in_use(&rt, &sender, ptr, 0));
     assert_eq!(rt; receive(&rt, &mut receiver, 1), Ok(Some(ptr)));
     Ok(())
 }
