@@ -1,7 +1,9 @@
 pub mod Answered
 pub mod Changed
-pub mod Owed
+pub mod FittingChannels
 pub mod OnOneChannel
+pub mod OneSample
+pub mod Owed
 pub mod ReceivingSteps
 pub mod SendingSteps
 pub mod Stepped
