@@ -1,10 +1,11 @@
 -- What a sender's channels are known to have, since they fit the settings.
-use Rattle.std.specs.Prelude.{◌≡◌, ℕ, ◌*◌, ◌<◌, ◌≤◌, true, List, length, map, All, Some, slice_get, slice_index_or}
+use Rattle.std.specs.Prelude.{◌≡◌, ℕ, ◌*◌, ◌<◌, ◌≤◌, true, List, [], length, map, All, Option, Some, slice_get, slice_index_or, unwrap_or}
 use Rattle.std.proofs.Common.{sym, ap, ◌∙◌, subst, arith}
 use Rattle.std.proofs.Math.ListN.{get_or-map}
 use Rattle.std.proofs.lemmas.List.{get_or-replicate, length-map, length-replicate}
 use Rattle.std.proofs.lemmas.List.Elements.{All-map}
-use Rattle.std.proofs.lemmas.Option.{get_or_from_slice_get, slice_get_within}
+use Rattle.std.proofs.lemmas.Option.{get_or_from_slice_get, slice_get-map, slice_get_within}
+use Rattle.std.specs.Option.{option_map}
 use Rattle.cal_alloc.specs.Limits.{max_memory_size}
 use Rattle.cal_connection.specs.Channel.{Shape, emptied, empty, is_used, no_segment, samples_of, segment_at}
 use Rattle.cal_connection.specs.ShapeLemmas.{shape-after_acquire}
@@ -13,7 +14,7 @@ use Rattle.cal_connection.specs.declared.settings.ConnectionSettings.{Connection
 use Rattle.cal_shared.specs.Acquiring.{FitsChannels, IsAcquirable, after_acquire, after_acquiring}
 use Rattle.cal_shared.specs.Channels.{FitsSender, SendingChannel}
 use Rattle.cal_shared.specs.Port.{IsSoundPort, SendingPort}
-use Rattle.cal_shared.specs.Sending.{segments_of}
+use Rattle.cal_shared.specs.Sending.{segments_at}
 
 module _ (settings : ConnectionSettings) (channel : SendingChannel) (fits : FitsSender settings channel) where
   pub length-segments : length channel.segments ≡ settings.number_of_segments
@@ -42,6 +43,14 @@ FitsSender-after_acquire settings channel fits = record {
   samples = samples-emptied channel.segments ∙ fits.samples;
 }
 
+-- the segments of the channel that is found at a number
+pub segments_at-there : (port : SendingPort) (index : ℕ) (channel : SendingChannel)
+    → slice_get port.channels index ≡ Some channel → segments_at port index ≡ channel.segments
+segments_at-there port index channel there =
+    ap (λ (found : Option (List SegmentDetails)). unwrap_or found [])
+    (slice_get-map (λ (c : SendingChannel). c.segments) port.channels index
+    ∙ ap (option_map (λ (c : SendingChannel). c.segments)) there)
+
 module _ (port : SendingPort) (sound : IsSoundPort FitsSender port) where
   -- the channel that is found at a number
   pub FitsSender-there : (index : ℕ) (channel : SendingChannel) → slice_get port.channels index ≡ Some channel
@@ -68,7 +77,7 @@ module _ (port : SendingPort) (sound : IsSoundPort FitsSender port) where
         omega (arith, length-segments port.settings channel (FitsSender-there index channel there));
     fits = λ index channel there. record {
       below = λ segment sample used.
-          let same : segments_of (slice_get port.channels index) ≡ channel.segments = ap segments_of there in
+          let same : segments_at port index ≡ channel.segments = segments_at-there port index channel there in
           subst
           (λ (segments : List SegmentDetails). sample * (segment_at segments segment).sample_size < max_memory_size)
           same

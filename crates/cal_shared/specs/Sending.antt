@@ -1,6 +1,6 @@
 -- What the calls of a sender do on one channel: the steps that they take at its rings, what they answer by these, and
 -- what becomes of the samples in use.
-use Rattle.std.specs.Prelude.{◌≡◌, ◌≢◌, ℕ, ◌+◌, ◌-◌, ◌/◌, ◌%◌, ◌^◌, ◌<◌, ◌↔◌, Bool, false, List, [], length, Option, Some, None, Result, Ok, Err}
+use Rattle.std.specs.Prelude.{◌≡◌, ◌≢◌, ℕ, ◌+◌, ◌-◌, ◌/◌, ◌%◌, ◌^◌, ◌<◌, ◌↔◌, Bool, false, List, [], length, map, slice_get, unwrap_or, Option, Result, Ok, Err}
 use Rattle.cal_alloc.specs.PointerOffset.{offset_of, segment_of}
 use Rattle.cal_queue.specs.SubmissionCalls.{IsPush}
 use Rattle.cal_queue.specs.SubmissionPass.{after_read_load}
@@ -15,17 +15,17 @@ use Rattle.cal_connection.specs.declared.errors.ZeroCopySendError.TheVariants.{C
 use Rattle.cal_connection.specs.declared.segment_details.SegmentDetails.{SegmentDetails}
 use Rattle.cal_connection.specs.declared.settings.ConnectionSettings.{ConnectionSettings}
 use Rattle.cal_shared.specs.Channels.{KeepsSendingRoom, SendingChannel}
-use Rattle.cal_shared.specs.Port.{SendingPort, channel_at}
+use Rattle.cal_shared.specs.Port.{SendingPort}
 
 -- ---- what is in use
 
--- an absent channel has no segment
-abbrev pub segments_of : Option SendingChannel → List SegmentDetails
-segments_of None = []
-segments_of (Some channel) = channel.segments
+-- the samples in use and their sizes, by the numbers of the channels and of the segments
+abbrev pub used_samples : SendingPort → List (List SegmentDetails)
+used_samples port = map (λ (channel : SendingChannel). channel.segments) port.channels
 
+-- an absent channel has no segment
 abbrev pub segments_at : SendingPort → ℕ → List SegmentDetails
-segments_at port channel = segments_of (channel_at port channel)
+segments_at port channel = unwrap_or (slice_get (used_samples port) channel) []
 
 -- whether the sample of an offset is in use on a channel
 abbrev pub is_in_use : SendingPort → ℕ → ℕ → ℕ → Bool

@@ -58,58 +58,60 @@ EndsByLook channel outcome before after =
 abbrev pub outcome_of : BackpressureToReceiverAction → Result (Unit {0}) ZeroCopySendError
 outcome_of answer = elim (sets_fail_mark answer) [ true ↦ Err UnableToDeliver | false ↦ passes ]
 
-module _ (Allows : ℕ → BackpressureToReceiverAction → Type 0) (strategy : BackpressureToReceiverAction) (channel : ℕ)
-  where
-    -- a turn finds the queue full, and the handler's answer ends the turns
-    pub record EndsByAnswer (retry : ℕ) (outcome : Result (Unit {0}) ZeroCopySendError) (before after : SendingPort)
-        : Type 0 where
-      pub full : SeesObstacle channel FullQueue before after
-      pub answer : BackpressureToReceiverAction
-      pub allowed : Allows retry answer
-      pub final : ends_turns strategy answer ≡ true
-      pub leads : outcome ≡ outcome_of answer
+module _ (Allows : ℕ → BackpressureToReceiverAction → Type 0) (strategy : BackpressureToReceiverAction) where
+  -- a turn finds the queue full, and the handler's answer ends the turns
+  pub record EndsByAnswer (channel retry : ℕ) (outcome : Result (Unit {0}) ZeroCopySendError)
+      (before after : SendingPort) : Type 0 where
+    pub full : SeesObstacle channel FullQueue before after
+    pub answer : BackpressureToReceiverAction
+    pub allowed : Allows retry answer
+    pub final : ends_turns strategy answer ≡ true
+    pub leads : outcome ≡ outcome_of answer
 
-    -- Turns, the first of which has this number. Each finds the queue full and goes on after an answer of the handler, or
-    -- without asking it where an answer was to retry until the send is delivered. Then a look or an answer ends them
-    abbrev pub TakesTurns : ℕ → Bool → List (Option BackpressureToReceiverAction)
-        → Result (Unit {0}) ZeroCopySendError → SendingPort → SendingPort → Type 0
-    TakesTurns retry false [] outcome before after = EndsByLook channel outcome before after
-    TakesTurns retry true [] outcome before after =
-        EndsByLook channel outcome before after ⊎ EndsByAnswer retry outcome before after
-    TakesTurns retry true (Some answer ∷ turns) outcome before after =
-        (next : SendingPort) × SeesObstacle channel FullQueue before next × Allows retry answer
-        × (ends_turns strategy answer ≡ false)
-        × TakesTurns (next_retry retry) (asks_again answer) turns outcome next after
-    TakesTurns retry true (None ∷ turns) outcome before after = ⊥
-    TakesTurns retry false (Some answer ∷ turns) outcome before after = ⊥
-    TakesTurns retry false (None ∷ turns) outcome before after =
-        (next : SendingPort) × SeesObstacle channel FullQueue before next
-        × TakesTurns retry false turns outcome next after
+  -- Turns, the first of which has this number. Each finds the queue full and goes on after an answer of the handler, or
+  -- without asking it where an answer was to retry until the send is delivered. Then a look or an answer ends them
+  abbrev pub TakesTurns : ℕ → ℕ → Bool → List (Option BackpressureToReceiverAction)
+      → Result (Unit {0}) ZeroCopySendError → SendingPort → SendingPort → Type 0
+  TakesTurns channel retry false [] outcome before after = EndsByLook channel outcome before after
+  TakesTurns channel retry true [] outcome before after =
+      EndsByLook channel outcome before after ⊎ EndsByAnswer channel retry outcome before after
+  TakesTurns channel retry true (Some answer ∷ turns) outcome before after =
+      (next : SendingPort) × SeesObstacle channel FullQueue before next × Allows retry answer
+      × (ends_turns strategy answer ≡ false)
+      × TakesTurns channel (next_retry retry) (asks_again answer) turns outcome next after
+  TakesTurns channel retry true (None ∷ turns) outcome before after = ⊥
+  TakesTurns channel retry false (Some answer ∷ turns) outcome before after = ⊥
+  TakesTurns channel retry false (None ∷ turns) outcome before after =
+      (next : SendingPort) × SeesObstacle channel FullQueue before next
+      × TakesTurns channel retry false turns outcome next after
 
-    -- some turns, the first of which asks the handler
-    abbrev pub SomeTurns : Result (Unit {0}) ZeroCopySendError → SendingPort → SendingPort → Type 0
-    SomeTurns outcome before after =
-        (turns : List (Option BackpressureToReceiverAction)) × TakesTurns 0 true turns outcome before after
+  -- some turns, the first of which asks the handler
+  abbrev pub SomeTurns : ℕ → Result (Unit {0}) ZeroCopySendError → SendingPort → SendingPort → Type 0
+  SomeTurns channel outcome before after =
+      (turns : List (Option BackpressureToReceiverAction)) × TakesTurns channel 0 true turns outcome before after
 
-    -- ---- the whole call
+  -- ---- the whole call
 
-    -- the first look finds the queue full, turns follow, and a send after them unless one of them refused it
-    pub record SendsAfterTurns (pointer sample_size : ℕ) (answer : Result (Option ℕ) ZeroCopySendError)
-        (before after : SendingPort) : Type 0 where
-      pub first : SendingPort
-      pub full : OnChannel channel SeesFull before first
-      pub outcome : Result (Unit {0}) ZeroCopySendError
-      pub last : SendingPort
-      pub turns : SomeTurns outcome first last
-      pub send : MatchResult outcome
-          (λ done. OnChannel channel (TriesToSend false pointer sample_size answer) last after)
-          (λ error. (answer ≡ Err error) × (after ≡ last))
+  -- before a send without overflow: the first look finds room, or it finds none and turns follow
+  abbrev pub AwaitsRoom : ℕ → Result (Unit {0}) ZeroCopySendError → SendingPort → SendingPort → Type 0
+  AwaitsRoom channel outcome before after =
+      ((outcome ≡ passes) × OnChannel channel SeesRoom before after)
+      ⊎ ((first : SendingPort) × OnChannel channel SeesFull before first × SomeTurns channel outcome first after)
 
-    -- with overflow the call is one try to send. Else the first look finds room, and one try follows, or it finds none
-    abbrev pub SendsBlocking : Bool → ℕ → ℕ → Result (Option ℕ) ZeroCopySendError → SendingPort → SendingPort → Type 0
-    SendsBlocking true pointer sample_size answer before after =
-        OnChannel channel (TriesToSend true pointer sample_size answer) before after
-    SendsBlocking false pointer sample_size answer before after =
-        ((first : SendingPort) × OnChannel channel SeesRoom before first
-        × OnChannel channel (TriesToSend false pointer sample_size answer) first after)
-        ⊎ SendsAfterTurns pointer sample_size answer before after
+  -- a send follows, unless a look or an answer refused it
+  pub record SendsAfterAwaiting (channel pointer sample_size : ℕ) (answer : Result (Option ℕ) ZeroCopySendError)
+      (before after : SendingPort) : Type 0 where
+    pub outcome : Result (Unit {0}) ZeroCopySendError
+    pub last : SendingPort
+    pub awaits : AwaitsRoom channel outcome before last
+    pub send : MatchResult outcome
+        (λ done. OnChannel channel (TriesToSend false pointer sample_size answer) last after)
+        (λ error. (answer ≡ Err error) × (after ≡ last))
+
+  -- with overflow the call is one try to send
+  abbrev pub SendsBlocking : ℕ → Bool → ℕ → ℕ → Result (Option ℕ) ZeroCopySendError → SendingPort → SendingPort
+      → Type 0
+  SendsBlocking channel true pointer sample_size answer before after =
+      OnChannel channel (TriesToSend true pointer sample_size answer) before after
+  SendsBlocking channel false pointer sample_size answer before after =
+      SendsAfterAwaiting channel pointer sample_size answer before after

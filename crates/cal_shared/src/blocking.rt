@@ -1,8 +1,8 @@
 //! The blocking send, turn by turn.
 ghost use Rattle.std.specs.Prelude.{◌≡◌, ℕ, ◌<◌, ◌^◌};
 ghost use Rattle.cal_shared.specs.Port.{pair_of_sender};
-ghost use Rattle.cal_shared.specs.Sending.{IsSendable};
-ghost use Rattle.cal_shared.specs.Turns.{SeesObstacle, SendsBlocking, SomeTurns};
+ghost use Rattle.cal_shared.specs.Sending.{IsSendable, used_samples};
+ghost use Rattle.cal_shared.specs.Turns.{AwaitsRoom, SeesObstacle, SendsBlocking, SomeTurns};
 
 use crate::backpressure::{ask, asks_again, ends_turns, outcome_of};
 use crate::sending_end::SendingEnd;
@@ -18,6 +18,7 @@ impl SharedPort<SendingEnd> {
         requires channel { channel_id < self.old.settings.number_of_channels }
         ensures seen { SeesObstacle channel_id result self.old self.new }
         ensures pair { pair_of_sender self.new ≡ pair_of_sender self.old }
+        ensures samples { used_samples self.new ≡ used_samples self.old }
     {
         let is_connected = self.is_connected();
         let is_closed = self.is_channel_closed(channel_id);
@@ -48,6 +49,7 @@ impl SharedPort<SendingEnd> {
             (ticks : ℕ) × (ticks < 2 ^ 64) × F.post handler.now retry ticks answer)
             strategy channel_id result self.old self.new }
         ensures pair { pair_of_sender self.new ≡ pair_of_sender self.old }
+        ensures samples { used_samples self.new ≡ used_samples self.old }
     {
         let start = clock.ticks();
         let mut retry = 0u64;
@@ -75,6 +77,29 @@ impl SharedPort<SendingEnd> {
         unreachable!()
     }
 
+    // Looks at the queue, and takes turns where it is full. The error is why no send follows.
+    fn await_room<R: Wait, F: Fn(u64, u64) -> BackpressureToReceiverAction, C: Clock>(
+        &mut self,
+        rt: &R,
+        channel_id: ChannelId,
+        handler: &F,
+        strategy: BackpressureToReceiverAction,
+        clock: &mut C,
+    ) -> Result<(), ZeroCopySendError>
+        requires channel { channel_id < self.old.settings.number_of_channels }
+        requires callable { (retry ticks : ℕ) → retry < 2 ^ 64 → ticks < 2 ^ 64 → F.pre handler.now retry ticks }
+        ensures awaited { AwaitsRoom (λ retry answer.
+            (ticks : ℕ) × (ticks < 2 ^ 64) × F.post handler.now retry ticks answer)
+            strategy channel_id result self.old self.new }
+        ensures pair { pair_of_sender self.new ≡ pair_of_sender self.old }
+        ensures samples { used_samples self.new ≡ used_samples self.old }
+    {
+        if self.has_room(channel_id) {
+            return Ok(());
+        }
+        self.take_turns(rt, channel_id, handler, strategy, clock)
+    }
+
     /// Sends an offset as `try_send` does, and asks the handler what to do while the queue is full and the connection
     /// doesn't overflow, where both ports are there and the channel isn't closed. The handler is told the number of its
     /// earlier calls and the ticks that have passed since the first look; `action` is what
@@ -97,9 +122,10 @@ impl SharedPort<SendingEnd> {
             action channel_id self.old.settings.enable_safe_overflow ptr sample_size result self.old self.new }
         ensures pair { pair_of_sender self.new ≡ pair_of_sender self.old }
     {
-        if !self.has_enabled_safe_overflow() && !self.has_room(channel_id) {
-            self.take_turns(rt, channel_id, &handler, action, clock)?;
+        if self.has_enabled_safe_overflow() {
+            return self.try_send(ptr, sample_size, channel_id);
         }
+        self.await_room(rt, channel_id, &handler, action, clock)?;
         self.try_send(ptr, sample_size, channel_id)
     }
 }

@@ -4,7 +4,7 @@ ghost use Rattle.cal_queue.specs.Callback.{MayRunOver, RunsOver};
 ghost use Rattle.cal_shared.specs.Acquiring.{IsAcquirable, after_acquiring, used_on_channels};
 ghost use Rattle.cal_shared.specs.Channels.{SendingChannel};
 ghost use Rattle.cal_shared.specs.Port.{OnChannel, pair_of_sender};
-ghost use Rattle.cal_shared.specs.Sending.{IsSendable, IsWithin, Reclaims, SeesFull, SeesRoom, TriesToSend, is_in_use};
+ghost use Rattle.cal_shared.specs.Sending.{IsSendable, IsWithin, Reclaims, SeesFull, SeesRoom, TriesToSend, is_in_use, used_samples};
 
 use crate::acquisition::{call_on_channels, empty_channels};
 use crate::sending_end::SendingEnd;
@@ -62,6 +62,7 @@ impl SharedPort<SendingEnd> {
         ensures looked { MatchBool result (OnChannel channel_id SeesRoom self.old self.new)
             (OnChannel channel_id SeesFull self.old self.new) }
         ensures pair { pair_of_sender self.new ≡ pair_of_sender self.old }
+        ensures samples { used_samples self.new ≡ used_samples self.old }
     {
         self.channels[channel_id.value()].has_room()
     }
