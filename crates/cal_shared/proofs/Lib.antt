@@ -1,12 +1,13 @@
 pub mod Answered
 pub mod Changed
 pub mod FittingChannels
+pub mod FoundChannel
 pub mod NewPorts
-pub mod OnOneChannel
 pub mod OneSample
 pub mod OnlyChannel
 pub mod Owed
 pub mod ReceivingSteps
+pub mod SameRings
 pub mod SendingSteps
 pub mod Stepped
 pub mod TurnSteps

@@ -10,11 +10,11 @@ only_element {X} xs (y ∷ ys) x is one =
     let long : length xs ≡ length ((y ∷ ys) ++ x ∷ []) = ap length is in
     let count = length-append (y ∷ ys) (x ∷ []) in absurd (omega arith)
 
-pub same_rings : (sending : List SendingChannel) (receiving : List ReceivingChannel) (s : SendingChannel)
+pub rings-only : (sending : List SendingChannel) (receiving : List ReceivingChannel) (s : SendingChannel)
     (r : ReceivingChannel) → sending ≡ s ∷ [] → receiving ≡ r ∷ []
     → map (λ (c : SendingChannel). c.rings) sending ≡ map (λ (c : ReceivingChannel). c.rings) receiving
     → s.rings ≡ r.rings
-same_rings sending receiving s r one other same =
+rings-only sending receiving s r one other same =
     ap (λ (rings : List Rings). slice_index_or rings 0 s.rings)
     (sym (ap (map (λ (c : SendingChannel). c.rings)) one) ∙ same
     ∙ ap (map (λ (c : ReceivingChannel). c.rings)) other)

@@ -1,8 +1,6 @@
 //! What a sender has of one channel: its ends of the two rings, and the samples that are in use.
 ghost use Rattle.std.specs.Prelude.{◌≡◌, ◌<◌, ◌≤◌, ◌/◌, ◌^◌, length, map, replicate, IfOk, MatchBool};
 ghost use Rattle.cal_alloc.specs.PointerOffset.{offset_of, segment_of};
-ghost use Rattle.cal_queue.specs.CompletionCalls.{get_pass};
-ghost use Rattle.cal_queue.specs.SubmissionCalls.{send_pass};
 ghost use Rattle.cal_queue.specs.UsedChunks.{capacity_of};
 ghost use Rattle.cal_queue.specs.Callback.{LeadsTo, MayRunOver};
 ghost use Rattle.cal_connection.specs.Acquisition.{FitsSegments, used_in_segments};
