@@ -1,10 +1,14 @@
 -- The calls of a receiver's end of a channel, from what its rings and its count did.
-use Rattle.std.specs.Prelude.{◌≡◌, ℕ, ◌+◌, ◌-◌, ◌<◌, ◌≤◌, [], ◌∷◌, ◌++◌, length, Option, Some, None}
+use Rattle.std.specs.Prelude.{◌≡◌, ℕ, ◌+◌, ◌-◌, ◌<◌, ◌^◌, ◌≤◌, ◌↔◌, Bool, IsFalse, length, Option, Some, Result, Err}
 use Rattle.std.proofs.Common.{refl, sym, ap, ◌∙◌, arith, length-append}
-use Rattle.cal_queue.specs.SubmissionCalls.{IsPop}
+use Rattle.cal_queue.specs.CompletionCalls.{IsPush}
+use Rattle.cal_queue.specs.SubmissionCalls.{IsPop, LooksOnce}
+use Rattle.cal_queue.specs.declared.push_refusal.PushRefusal.{PushRefusal}
+use Rattle.cal_queue.specs.declared.push_refusal.PushRefusal.TheVariants.{PositionsUsedUp}
+use Rattle.cal_connection.specs.declared.errors.ZeroCopyReleaseError.{ZeroCopyReleaseError}
 use Rattle.cal_connection.specs.declared.settings.ConnectionSettings.{ConnectionSettings}
 use Rattle.cal_shared.specs.Channels.{FitsReceiver, KeepsReceivingRoom, ReceivingChannel, borrow_count}
-use Rattle.cal_shared.specs.Receiving.{Pops}
+use Rattle.cal_shared.specs.Receiving.{LooksForData, Pops, Releases, release_answer}
 
 -- a channel that has as much room as before fits the settings, where its counts do
 pub FitsReceiver-kept : (settings : ConnectionSettings) (before after : ReceivingChannel)
@@ -25,4 +29,38 @@ Pops-made before after answer pop rings buffer completion = record {
   below = pop;
   completion = completion;
   room = record { rings = rings; buffer = buffer; completion = ap (λ p. p.capacity) completion };
+}
+
+-- what the count beside the two ends says of their passes
+pub borrow_count-is : (channel : ReceivingChannel) (count : ℕ)
+    → count + length channel.completion.put ≡ length channel.submission.received → borrow_count channel ≡ count
+borrow_count-is channel count is = omega arith
+
+-- a look leaves the completion ring alone
+pub LooksForData-made : (before after : ReceivingChannel) (has_data : Bool)
+    → LooksOnce before.submission after.submission
+    → (IsFalse has_data ↔ (after.submission.seen_write ≡ Some after.submission.seen_read))
+    → after.rings ≡ before.rings → after.submission.buffer ≡ before.submission.buffer
+    → after.completion ≡ before.completion → LooksForData has_data before after
+LooksForData-made before after has_data look empty rings buffer completion = record {
+  look = look;
+  empty = empty;
+  completion = completion;
+  room = record { rings = rings; buffer = buffer; completion = ap (λ p. p.capacity) completion };
+}
+
+-- a push into the completion ring leaves the submission ring alone
+pub Releases-made : (before after : ReceivingChannel) (pointer : ℕ) (answer : Result (Unit {0}) ZeroCopyReleaseError)
+    (pushed : Result (Unit {0}) PushRefusal) → IsPush pointer pushed before.completion after.completion
+    → ((pushed ≡ Err PositionsUsedUp) ↔ (length before.completion.put ≡ 2 ^ 64 - 1))
+    → answer ≡ release_answer pushed → after.rings ≡ before.rings
+    → after.completion.capacity ≡ before.completion.capacity → after.submission ≡ before.submission
+    → Releases pointer answer before after
+Releases-made before after pointer answer pushed push used_up answers rings capacity submission = record {
+  pushed = pushed;
+  push = push;
+  used_up = used_up;
+  answers = answers;
+  submission = submission;
+  room = record { rings = rings; buffer = ap (λ p. p.buffer) submission; completion = capacity };
 }

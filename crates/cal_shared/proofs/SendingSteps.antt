@@ -4,6 +4,8 @@ use Rattle.std.proofs.Common.{refl, sym, ap, ◌∙◌}
 use Rattle.cal_queue.specs.SubmissionCalls.{IsPush, LoadsOnce}
 use Rattle.cal_queue.specs.SubmissionPass.{after_read_load}
 use Rattle.cal_queue.specs.CompletionCalls as completion
+use Rattle.cal_queue.specs.declared.completion_ring.pass.GetPass.{GetPass}
+use Rattle.cal_queue.specs.declared.submission_ring.pass.SendPass.{SendPass}
 use Rattle.cal_queue.specs.declared.push_refusal.PushRefusal.{PushRefusal}
 use Rattle.cal_queue.specs.declared.push_refusal.PushRefusal.TheVariants as refusal
 use Rattle.cal_connection.specs.Channel.{after_return, return_answer, samples_of, with_entry}
@@ -14,7 +16,7 @@ use Rattle.cal_connection.specs.declared.errors.ZeroCopySendError.{ZeroCopySendE
 use Rattle.cal_connection.specs.declared.errors.ZeroCopySendError.TheVariants.{ConnectionCorrupted}
 use Rattle.cal_connection.specs.declared.segment_details.SegmentDetails.{SegmentDetails}
 use Rattle.cal_connection.specs.declared.settings.ConnectionSettings.{ConnectionSettings}
-use Rattle.cal_shared.specs.Channels.{FitsSender, KeepsSendingRoom, SendingChannel}
+use Rattle.cal_shared.specs.Channels.{FitsSender, KeepsSendingRoom, Rings, SendingChannel}
 use Rattle.cal_shared.specs.Sending.{Reclaims, SeesFull, SeesRoom, TriesToSend, send_error}
 
 -- a channel that has as much room as before fits the settings as before
@@ -108,13 +110,27 @@ module _ (before after : SendingChannel) (rings : after.rings ≡ before.rings) 
 pub SeesRoom-or_full : (before after : SendingChannel) (answer : Bool)
     → LoadsOnce before.submission after.submission
     → (IsFalse answer ↔ (length before.submission.sent ≡ after.submission.seen_read + after.submission.buffer))
-    → after.submission.buffer ≡ before.submission.buffer
-    → after ≡ record before { submission = after.submission }
+    → after.rings ≡ before.rings → after.submission.buffer ≡ before.submission.buffer
+    → after.completion ≡ before.completion → after.segments ≡ before.segments
     → MatchBool answer (SeesRoom before after) (SeesFull before after)
-SeesRoom-or_full before after answer loads full buffer only = by_answer answer full
+SeesRoom-or_full before after answer loads full rings buffer completion segments = by_answer answer full
   where
     step : after ≡ record before { submission = after_read_load after.submission.seen_read before.submission }
-    step = only ∙ ap (λ p. record before { submission = p }) loads
+    step =
+        ap (λ (r : Rings). record after { rings = r }) rings
+        ∙ ap (λ (p : SendPass). record after { rings = before.rings; submission = p }) loads
+        ∙ ap (λ (p : GetPass). record {
+          rings = before.rings;
+          submission = after_read_load after.submission.seen_read before.submission;
+          completion = p;
+          segments = after.segments;
+        }) completion
+        ∙ ap (λ (xs : List SegmentDetails). record {
+          rings = before.rings;
+          submission = after_read_load after.submission.seen_read before.submission;
+          completion = before.completion;
+          segments = xs;
+        }) segments
 
     same : after.submission.seen_read + after.submission.buffer
         ≡ after.submission.seen_read + before.submission.buffer
