@@ -2,6 +2,7 @@ pub mod Words
 pub mod Script
 pub mod Parsing
 pub mod Spelling
+pub mod Relay
 pub mod ReplyText
 pub mod Streams
 pub mod MemoryStreams

@@ -6,11 +6,14 @@ ghost use Rattle.std.specs.Prelude.{◌≡◌, map, string_bytes, option_map};
 ghost use Rattle.cal_program.specs.Information.{information_of};
 
 mod examples;
+mod gate;
 mod help;
 mod laws;
 mod output_buffer;
 mod print;
+mod print_relay;
 mod read;
+mod relay;
 mod run_program;
 mod script;
 mod sink;
@@ -21,7 +24,9 @@ mod std_streams;
 mod tests;
 mod words;
 
+use gate::OpenGate;
 use help::{HELP, VERSION};
+use relay::run_relay;
 use run_program::run_program;
 use sink::Sink;
 use status::Status;
@@ -29,7 +34,7 @@ use std::process::ExitCode;
 use std::rt::Env;
 use std::{env, io};
 use std_streams::{StdSink, StdSource};
-use words::is_only_word;
+use words::{is_only_word, is_text};
 
 fn main(rt: HostRuntime) -> ExitCode {
     let words = match words_of(&rt) {
@@ -46,6 +51,10 @@ fn main(rt: HostRuntime) -> ExitCode {
             Ok(()) => ExitCode::SUCCESS,
             Err(_) => ExitCode::from(Status::WriteFault.code()),
         };
+    }
+    if words.len() > 0 && is_text(words[0].as_bytes(), b"relay") {
+        let outcome = run_relay(&rt, rt.alloc(), words.as_slice(), &OpenGate, &mut sink);
+        return ExitCode::from(outcome.status.code());
     }
     let mut source = StdSource::new(rt.stdin());
     let outcome = run_program(rt.alloc(), words.as_slice(), &mut source, &mut sink);

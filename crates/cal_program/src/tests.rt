@@ -7,6 +7,7 @@ ghost use Rattle.cal_program.specs.Streams.{Takes, TakesNothing};
 mod clean;
 mod many;
 mod memory;
+mod relays;
 mod streams;
 mod worked_examples;
 
@@ -77,7 +78,7 @@ impl<'a> Source for OneByOne<'a> {
 }
 
 /// The words of a command line, which are one space apart.
-fn words_of(alloc: Global, line: &str) -> Result<Vec<String>, AllocError> {
+pub(crate) fn words_of(alloc: Global, line: &str) -> Result<Vec<String>, AllocError> {
     let mut words = Vec::new(alloc);
     for word in line.split(' ') {
         words.push(String::from_str(alloc, word)?)?;
