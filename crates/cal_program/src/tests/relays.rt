@@ -67,11 +67,13 @@ fn relayed<'a, R: Threads + Wait + Sync, G: Gate + Sync>(
 }
 
 #[test]
-fn a_thousand_offsets_are_relayed(rt: HostRuntime) -> Result<(), Fail> {
-    let (outcome, _sink) = relayed(&rt, rt.alloc(), "relay 4 1000", &OpenGate)?;
-    assert_eq!(rt; outcome.status, Status::Done);
-    assert_eq!(rt; (outcome.sent, outcome.left), (1000, 0));
-    assert_eq!(rt; outcome.received.wrapping_add(outcome.returned), 1000);
+fn a_hundred_relays_lose_nothing(rt: HostRuntime) -> Result<(), Fail> {
+    for _ in 0..100 {
+        let (outcome, _sink) = relayed(&rt, rt.alloc(), "relay 4 1000", &OpenGate)?;
+        assert_eq!(rt; outcome.status, Status::Done);
+        assert_eq!(rt; (outcome.sent, outcome.left), (1000, 0));
+        assert_eq!(rt; outcome.received.wrapping_add(outcome.returned), 1000);
+    }
     Ok(())
 }
 
