@@ -2,6 +2,7 @@ pub mod Answered
 pub mod Changed
 pub mod FittingChannels
 pub mod FoundChannel
+pub mod NamedSamples
 pub mod NewPorts
 pub mod OneSample
 pub mod OnlyChannel
