@@ -3,7 +3,6 @@ use Rattle.cal_connection.specs.declared.settings.ConnectionSettings.{Connection
 use Rattle.cal_shared.specs.Channels.{FitsReceiver, ReceivingChannel}
 use Rattle.cal_shared.specs.Receiving.{LooksForData}
 use Rattle.cal_shared.proofs.FoundChannel.{Fits-found, Found, IsSoundPort-changed, OnChannel-changed, pair_of-changed}
-use Rattle.cal_shared.proofs.ReceivingSteps.{FitsReceiver-kept}
 use Rattle.cal_shared.proofs.shared_port.SharedPort.has_data.Goals as goal
 
 found : (c : goal.After-index_mut) → Found FitsReceiver c.args.self.now c.args.channel_id
@@ -25,8 +24,7 @@ found c = record {
 
 pub invariant_of-self : goal.invariant_of-self
 invariant_of-self c =
-    IsSoundPort-changed (found c) c.has_data.new.self
-    (FitsReceiver-kept _ _ _ c.has_data.ensures.looked.room (counts c).0 (counts c).1 (Fits-found (found c)))
+    IsSoundPort-changed (found c) c.has_data.new.self (c.has_data.ensures.kept _ (Fits-found (found c)))
 
 pub returns-clause-looked : goal.returns-clause-looked
 returns-clause-looked c =
@@ -36,5 +34,4 @@ returns-clause-looked c =
 
 pub returns-clause-pair : goal.returns-clause-pair
 returns-clause-pair c =
-    pair_of-changed (found c) (λ (channel : ReceivingChannel). channel.rings) c.has_data.new.self
-    c.has_data.ensures.looked.room.rings
+    pair_of-changed (found c) (λ (channel : ReceivingChannel). channel.rings) c.has_data.new.self c.has_data.ensures.rings

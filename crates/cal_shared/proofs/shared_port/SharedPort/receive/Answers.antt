@@ -3,7 +3,6 @@ use Rattle.cal_connection.specs.declared.settings.ConnectionSettings.{Connection
 use Rattle.cal_shared.specs.Channels.{FitsReceiver, ReceivingChannel}
 use Rattle.cal_shared.specs.Receiving.{Receives}
 use Rattle.cal_shared.proofs.FoundChannel.{Fits-found, Found, IsSoundPort-changed, OnChannel-changed, pair_of-changed}
-use Rattle.cal_shared.proofs.ReceivingSteps.{FitsReceiver-kept}
 use Rattle.cal_shared.proofs.shared_port.SharedPort.receive.Goals as goal
 
 found : (c : goal.After-index_mut) → Found FitsReceiver c.args.self.now c.args.channel_id
@@ -25,8 +24,7 @@ found c = record {
 
 pub invariant_of-self : goal.invariant_of-self
 invariant_of-self c =
-    IsSoundPort-changed (found c) c.receive.new.self
-    (FitsReceiver-kept _ _ _ (room c) c.receive.ensures.received_first c.receive.ensures.within (Fits-found (found c)))
+    IsSoundPort-changed (found c) c.receive.new.self (c.receive.ensures.kept _ refl (Fits-found (found c)))
 
 pub returns-clause-received : goal.returns-clause-received
 returns-clause-received c =
@@ -36,5 +34,4 @@ returns-clause-received c =
 
 pub returns-clause-pair : goal.returns-clause-pair
 returns-clause-pair c =
-    pair_of-changed (found c) (λ (channel : ReceivingChannel). channel.rings) c.receive.new.self
-    c.receive.ensures.received.room.rings
+    pair_of-changed (found c) (λ (channel : ReceivingChannel). channel.rings) c.receive.new.self c.receive.ensures.rings

@@ -3,7 +3,6 @@ use Rattle.cal_connection.specs.declared.settings.ConnectionSettings.{Connection
 use Rattle.cal_shared.specs.Channels.{FitsSender, SendingChannel}
 use Rattle.cal_shared.specs.Sending.{Reclaims}
 use Rattle.cal_shared.proofs.FoundChannel.{Fits-found, Found, IsSoundPort-changed, OnChannel-changed, pair_of-changed}
-use Rattle.cal_shared.proofs.SendingSteps.{FitsSender-kept}
 use Rattle.cal_shared.proofs.shared_port.SharedPort.reclaim.Goals as goal
 
 found : (c : goal.After-index_mut) → Found FitsSender c.args.self.now c.args.channel_id
@@ -25,8 +24,7 @@ found c = record {
 
 pub invariant_of-self : goal.invariant_of-self
 invariant_of-self c =
-    IsSoundPort-changed (found c) c.reclaim.new.self
-    (FitsSender-kept _ _ _ c.reclaim.ensures.reclaimed.room (Fits-found (found c)))
+    IsSoundPort-changed (found c) c.reclaim.new.self (c.reclaim.ensures.kept _ (Fits-found (found c)))
 
 pub returns-clause-reclaimed : goal.returns-clause-reclaimed
 returns-clause-reclaimed c =
@@ -36,5 +34,4 @@ returns-clause-reclaimed c =
 
 pub returns-clause-pair : goal.returns-clause-pair
 returns-clause-pair c =
-    pair_of-changed (found c) (λ (channel : SendingChannel). channel.rings) c.reclaim.new.self
-    c.reclaim.ensures.reclaimed.room.rings
+    pair_of-changed (found c) (λ (channel : SendingChannel). channel.rings) c.reclaim.new.self c.reclaim.ensures.rings

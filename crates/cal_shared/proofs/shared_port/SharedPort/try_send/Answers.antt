@@ -4,7 +4,6 @@ use Rattle.cal_shared.specs.Channels.{FitsSender, SendingChannel}
 use Rattle.cal_shared.specs.Sending.{TriesToSend}
 use Rattle.cal_shared.proofs.FoundChannel.{Fits-found, Found, IsSoundPort-changed, OnChannel-changed, pair_of-changed}
 use Rattle.cal_shared.proofs.NamedSamples.{sample-named, segment-named}
-use Rattle.cal_shared.proofs.SendingSteps.{FitsSender-kept}
 use Rattle.cal_shared.proofs.shared_port.SharedPort.try_send.Goals as goal
 
 found : (c : goal.After-index_mut) → Found FitsSender c.args.self.now c.args.channel_id
@@ -34,8 +33,7 @@ try_send-requires-clause-index c =
 
 pub invariant_of-self : goal.invariant_of-self
 invariant_of-self c =
-    IsSoundPort-changed (found c) c.try_send.new.self
-    (FitsSender-kept _ _ _ c.try_send.ensures.sent.room (Fits-found (found c)))
+    IsSoundPort-changed (found c) c.try_send.new.self (c.try_send.ensures.kept _ (Fits-found (found c)))
 
 pub returns-clause-sent : goal.returns-clause-sent
 returns-clause-sent c =
@@ -45,5 +43,4 @@ returns-clause-sent c =
 
 pub returns-clause-pair : goal.returns-clause-pair
 returns-clause-pair c =
-    pair_of-changed (found c) (λ (channel : SendingChannel). channel.rings) c.try_send.new.self
-    c.try_send.ensures.sent.room.rings
+    pair_of-changed (found c) (λ (channel : SendingChannel). channel.rings) c.try_send.new.self c.try_send.ensures.rings
