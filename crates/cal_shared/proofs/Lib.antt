@@ -1,5 +1,6 @@
 pub mod Answered
 pub mod Changed
+pub mod Exchanged
 pub mod FittingChannels
 pub mod FoundChannel
 pub mod NamedSamples
