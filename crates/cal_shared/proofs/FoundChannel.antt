@@ -1,5 +1,5 @@
 -- A channel that is found at its number among a port's channels, and what a call on it leaves.
-use Rattle.std.specs.Prelude.{◌≡◌, ℕ, ◌<◌, List, length, map, Some, slice_index_or, slice_set}
+use Rattle.std.specs.Prelude.{◌≡◌, ℕ, ◌<◌, Bool, true, false, List, length, map, MatchBool, Some, slice_index_or, slice_set}
 use Rattle.std.proofs.Common.{refl, sym, ap, ◌∙◌, subst}
 use Rattle.std.proofs.Math.Seq.{map-set_same}
 use Rattle.std.proofs.lemmas.List.{length-set}
@@ -75,3 +75,20 @@ module _ {E : Type 0} {Fits : ConnectionSettings → E → Type 0} {value : Port
       ap (λ (rings : List Rings). record { settings = f.port.settings; words = f.port.words; rings = rings })
       (map-set_same rings_of f.port.channels f.index changed f.found (keeps ∙ ap rings_of f.is))
       ∙ ap (pair_of rings_of) f.same
+
+  -- a part that the channel keeps is kept of all channels
+  pub map-changed : {X : Type 0} (f : Found Fits value channel) (part : E → X) (changed : E)
+      → part changed ≡ part f.found
+      → map part (with_channel f.port f.index changed).channels ≡ map part value.channels
+  map-changed f part changed keeps =
+      map-set_same part f.port.channels f.index changed f.found (keeps ∙ ap part f.is)
+      ∙ ap (λ (p : Port E). map part p.channels) f.same
+
+  -- one of two kinds of steps on the channel
+  pub OnChannel-either : (f : Found Fits value channel) (changed : E) (One Other : E → E → Type 0) (which : Bool)
+      → MatchBool which (One f.found changed) (Other f.found changed)
+      → MatchBool which (OnChannel channel One value (with_channel f.port f.index changed))
+      (OnChannel channel Other value (with_channel f.port f.index changed))
+  OnChannel-either f changed One Other true steps = OnChannel-changed f changed (λ (s : ConnectionSettings). One) steps
+  OnChannel-either f changed One Other false steps =
+      OnChannel-changed f changed (λ (s : ConnectionSettings). Other) steps

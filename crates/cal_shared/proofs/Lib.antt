@@ -1,7 +1,9 @@
 pub mod Answered
 pub mod Changed
+pub mod Exchanged
 pub mod FittingChannels
 pub mod FoundChannel
+pub mod NamedSamples
 pub mod NewPorts
 pub mod OneSample
 pub mod OnlyChannel

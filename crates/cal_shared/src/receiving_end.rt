@@ -1,6 +1,7 @@
 //! What a receiver has of one channel: its ends of the two rings, and how many offsets it borrows.
-ghost use Rattle.std.specs.Prelude.{◌≡◌, ◌+◌, ◌-◌, ◌<◌, ◌≤◌, length};
+ghost use Rattle.std.specs.Prelude.{◌≡◌, ◌<◌, ◌≤◌};
 ghost use Rattle.cal_connection.specs.Words.{receiver_bit};
+ghost use Rattle.cal_connection.specs.declared.settings.ConnectionSettings.{ConnectionSettings};
 ghost use Rattle.cal_shared.specs.Channels.{FitsReceiver, borrow_count};
 ghost use Rattle.cal_shared.specs.Receiving.{LooksForData, Receives, Releases, release_error};
 
@@ -77,8 +78,9 @@ impl ReceivingEnd {
     ) -> Result<Option<PointerOffset>, ZeroCopyReceiveError>
         requires within { borrow_count self.old ≤ limit }
         ensures received { Receives limit result self.old self.new }
-        ensures received_first { length self.new.completion.put ≤ length self.new.submission.received }
-        ensures within { borrow_count self.new ≤ limit }
+        ensures kept { (settings : ConnectionSettings) → settings.max_borrowed_samples ≡ limit
+            → FitsReceiver settings self.old → FitsReceiver settings self.new }
+        ensures rings { self.new.rings ≡ self.old.rings }
     {
         if self.borrow_count >= limit {
             return Err(ZeroCopyReceiveError::ReceiveWouldExceedMaxBorrowValue);
@@ -94,8 +96,8 @@ impl ReceivingEnd {
     pub(crate) fn release(&mut self, ptr: PointerOffset) -> Result<(), ZeroCopyReleaseError>
         requires borrowed { 0 < borrow_count self.old }
         ensures released { Releases ptr result self.old self.new }
-        ensures received_first { length self.new.completion.put ≤ length self.new.submission.received }
-        ensures no_more_borrowed { borrow_count self.new ≤ borrow_count self.old }
+        ensures kept { (settings : ConnectionSettings) → FitsReceiver settings self.old → FitsReceiver settings self.new }
+        ensures rings { self.new.rings ≡ self.old.rings }
     {
         if let Err(refusal) = self.completion.push(ptr.as_value()) {
             return Err(release_error(refusal));
@@ -107,6 +109,8 @@ impl ReceivingEnd {
     /// Whether an offset is queued, by one look.
     pub(crate) fn has_data(&mut self) -> bool
         ensures looked { LooksForData result self.old self.new }
+        ensures kept { (settings : ConnectionSettings) → FitsReceiver settings self.old → FitsReceiver settings self.new }
+        ensures rings { self.new.rings ≡ self.old.rings }
     {
         self.submission.has_value()
     }

@@ -6,6 +6,7 @@ ghost use Rattle.cal_queue.specs.Callback.{LeadsTo, MayRunOver};
 ghost use Rattle.cal_connection.specs.Acquisition.{FitsSegments, used_in_segments};
 ghost use Rattle.cal_connection.specs.Channel.{is_used, new_segment, segment_at};
 ghost use Rattle.cal_connection.specs.Words.{sender_bit};
+ghost use Rattle.cal_connection.specs.declared.settings.ConnectionSettings.{ConnectionSettings};
 ghost use Rattle.cal_shared.specs.Acquiring.{after_acquire};
 ghost use Rattle.cal_shared.specs.Channels.{FitsSender};
 ghost use Rattle.cal_shared.specs.Sending.{Reclaims, SeesFull, SeesRoom, TriesToSend, send_error};
@@ -85,6 +86,8 @@ impl SendingEnd {
         requires index { offset_of ptr / sample_size
             < capacity_of (segment_at self.old.segments (segment_of ptr)).used }
         ensures sent { TriesToSend overflow ptr sample_size result self.old self.new }
+        ensures kept { (settings : ConnectionSettings) → FitsSender settings self.old → FitsSender settings self.new }
+        ensures rings { self.new.rings ≡ self.old.rings }
     {
         let back = match self.submission.push(ptr.as_value(), overflow) {
             Ok(back) => back,
@@ -101,6 +104,9 @@ impl SendingEnd {
     /// Whether fewer offsets are queued than may be, by one look.
     pub(crate) fn has_room(&mut self) -> bool
         ensures looked { MatchBool result (SeesRoom self.old self.new) (SeesFull self.old self.new) }
+        ensures kept { (settings : ConnectionSettings) → FitsSender settings self.old → FitsSender settings self.new }
+        ensures rings { self.new.rings ≡ self.old.rings }
+        ensures samples { self.new.segments ≡ self.old.segments }
     {
         self.submission.has_room()
     }
@@ -120,6 +126,8 @@ impl SendingEnd {
     /// error, and is gone.
     pub(crate) fn reclaim(&mut self) -> Result<Option<PointerOffset>, ZeroCopyReclaimError>
         ensures reclaimed { Reclaims result self.old self.new }
+        ensures kept { (settings : ConnectionSettings) → FitsSender settings self.old → FitsSender settings self.new }
+        ensures rings { self.new.rings ≡ self.old.rings }
     {
         let returned = self.completion.pop();
         judge(
