@@ -1,12 +1,14 @@
 //! Measures the rings: `cal_bench one COUNT` pushes and pops that many values of a submission ring on one thread,
 //! `cal_bench two COUNT` sends them from one thread to another with overflow, and `cal_bench completion COUNT` puts
-//! them into a completion ring and gets them out on one thread. `cal_bench pool COUNT`, `queue` and `used` measure the
+//! them into a completion ring and gets them out on one thread. `cal_bench ports COUNT` sends samples from one thread to
+//! another over a pair of ports, which gives them back. `cal_bench pool COUNT`, `queue` and `used` measure the
 //! plain containers: a chunk got and freed, a value pushed and popped, a number put in and taken out. Each prints the
 //! nanoseconds that it took.
 #![tactic(auto)]
 
 mod one_thread;
 mod plain_calls;
+mod port_pairs;
 mod two_threads;
 
 use crate::plain_calls::container_of;
@@ -16,7 +18,7 @@ use std::env;
 use std::rt::Env;
 use std::time::Instant;
 
-const USAGE: &str = "usage: cal_bench (one | two | completion | pool | queue | used) COUNT";
+const USAGE: &str = "usage: cal_bench (one | two | completion | ports | pool | queue | used) COUNT";
 
 /// Which measurement, and of how many values.
 #[derive(Clone, Copy)]
@@ -24,6 +26,7 @@ enum Plan {
     OneThread(u64),
     TwoThreads(u64),
     Completion(u64),
+    Ports(u64),
 }
 
 /// What the words of the command line ask for; the count is at least 1.
@@ -37,6 +40,7 @@ fn plan_of(words: &[String]) -> Option<Plan> {
         "one" => Some(Plan::OneThread(count)),
         "two" => Some(Plan::TwoThreads(count)),
         "completion" => Some(Plan::Completion(count)),
+        "ports" => Some(Plan::Ports(count)),
         _ => None,
     }
 }
@@ -72,6 +76,16 @@ fn main(rt: HostRuntime) -> Result<()> {
                 received: all.got,
                 returned: 0,
                 left: all.left,
+            };
+            (count, rest)
+        }
+        Plan::Ports(count) => {
+            let reclaimed = port_pairs::send_to_reclaim(&rt, rt.alloc(), count)? as usize;
+            let rest = RingRest {
+                sent: reclaimed,
+                received: reclaimed,
+                returned: 0,
+                left: 0,
             };
             (count, rest)
         }
