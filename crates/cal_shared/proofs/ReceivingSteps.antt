@@ -1,5 +1,5 @@
 -- The calls of a receiver's end of a channel, from what its rings and its count did.
-use Rattle.std.specs.Prelude.{◌≡◌, ℕ, ◌+◌, ◌-◌, ◌<◌, ◌^◌, ◌≤◌, ◌↔◌, Bool, IsFalse, length, Option, Some, Result, Err}
+use Rattle.std.specs.Prelude.{◌≡◌, ℕ, ◌+◌, ◌-◌, ◌<◌, ◌^◌, ◌≤◌, ◌↔◌, Bool, IsFalse, [], ◌∷◌, ◌++◌, length, Option, Some, Result, Err}
 use Rattle.std.proofs.Common.{refl, sym, ap, ◌∙◌, arith, length-append}
 use Rattle.cal_queue.specs.CompletionCalls.{IsPush}
 use Rattle.cal_queue.specs.SubmissionCalls.{IsPop, LooksOnce}
@@ -64,3 +64,38 @@ Releases-made before after pointer answer pushed push used_up answers rings capa
   submission = submission;
   room = record { rings = rings; buffer = ap (λ p. p.buffer) submission; completion = capacity };
 }
+
+-- a channel whose counts stay fits as before
+pub FitsReceiver-same_counts : (settings : ConnectionSettings) (before after : ReceivingChannel)
+    → KeepsReceivingRoom before after → after.submission.received ≡ before.submission.received
+    → after.completion.put ≡ before.completion.put → FitsReceiver settings before → FitsReceiver settings after
+FitsReceiver-same_counts settings before after keeps received put fits =
+    let received_count : length after.submission.received ≡ length before.submission.received = ap length received in
+    let put_count : length after.completion.put ≡ length before.completion.put = ap length put in
+    let first = fits.received_first in
+    let within = fits.within in
+    FitsReceiver-kept settings before after keeps (omega arith) (omega arith) fits
+
+-- one more was received, where fewer were borrowed than may be
+pub FitsReceiver-received : (settings : ConnectionSettings) (before after : ReceivingChannel) (entry : ℕ × ℕ)
+    → KeepsReceivingRoom before after → after.submission.received ≡ before.submission.received ++ entry ∷ []
+    → after.completion.put ≡ before.completion.put → borrow_count before < settings.max_borrowed_samples
+    → FitsReceiver settings before → FitsReceiver settings after
+FitsReceiver-received settings before after entry keeps received put below fits =
+    let received_count : length after.submission.received ≡ length before.submission.received + 1 =
+    ap length received ∙ length-append before.submission.received (entry ∷ []) in
+    let put_count : length after.completion.put ≡ length before.completion.put = ap length put in
+    let first = fits.received_first in
+    FitsReceiver-kept settings before after keeps (omega arith) (omega arith) fits
+
+-- one more was released, where some were borrowed
+pub FitsReceiver-released : (settings : ConnectionSettings) (before after : ReceivingChannel) (value : ℕ)
+    → KeepsReceivingRoom before after → after.completion.put ≡ before.completion.put ++ value ∷ []
+    → after.submission.received ≡ before.submission.received → 0 < borrow_count before
+    → FitsReceiver settings before → FitsReceiver settings after
+FitsReceiver-released settings before after value keeps put received some fits =
+    let put_count : length after.completion.put ≡ length before.completion.put + 1 =
+    ap length put ∙ length-append before.completion.put (value ∷ []) in
+    let received_count : length after.submission.received ≡ length before.submission.received = ap length received in
+    let within = fits.within in
+    FitsReceiver-kept settings before after keeps (omega arith) (omega arith) fits

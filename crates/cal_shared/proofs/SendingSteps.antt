@@ -31,8 +31,8 @@ FitsSender-kept settings before after keeps fits = record {
 module _ (before after : SendingChannel) (rings : after.rings ≡ before.rings) where
   -- ---- send
 
-  module _ (buffer : after.submission.buffer ≡ before.submission.buffer) (completion : after.completion ≡ before.completion)
-      (overflow : Bool) (pointer sample_size : ℕ) where
+  module _ (buffer : after.submission.buffer ≡ before.submission.buffer)
+      (completion : after.completion ≡ before.completion) (overflow : Bool) (pointer sample_size : ℕ) where
     -- the offset was sent, its sample is in use, and what came back was judged
     pub TriesToSend-sent : (answer : Result (Option ℕ) ZeroCopySendError) (back : Option ℕ)
         (entered : List SegmentDetails)

@@ -78,7 +78,8 @@ IsSendable-kept before after channel pointer sample_size pair used sendable = re
 
 -- ---- turns
 
-module _ (Allows : ℕ → BackpressureToReceiverAction → Type 0) (strategy : BackpressureToReceiverAction) (channel : ℕ) where
+module _ (Allows : ℕ → BackpressureToReceiverAction → Type 0) (strategy : BackpressureToReceiverAction)
+    (channel : ℕ) where
   pub TakesTurns-look : (retry : ℕ) (asks : Bool) (outcome : Result (Unit {0}) ZeroCopySendError)
       (before after : SendingPort) → EndsByLook channel outcome before after
       → TakesTurns Allows strategy channel retry asks [] outcome before after

@@ -1,4 +1,4 @@
-//! Ports for two threads: a sender and a receiver of one connection, without a lock. Each may go to a thread of its own.
+//! Ports for two threads: a sender and a receiver of one connection, without a lock. Each may go to its own thread.
 //! Offsets of samples are sent, received, released and reclaimed over two rings a channel, and both ports read and
 //! change the connection's words in single steps. Which samples are in use is known to the sender alone, and how many
 //! offsets are borrowed to the receiver alone. Contracts say of each call which steps at which ring or word it took,

@@ -96,7 +96,8 @@ impl ReceivingEnd {
     pub(crate) fn release(&mut self, ptr: PointerOffset) -> Result<(), ZeroCopyReleaseError>
         requires borrowed { 0 < borrow_count self.old }
         ensures released { Releases ptr result self.old self.new }
-        ensures kept { (settings : ConnectionSettings) → FitsReceiver settings self.old → FitsReceiver settings self.new }
+        ensures kept { (settings : ConnectionSettings) → FitsReceiver settings self.old
+            → FitsReceiver settings self.new }
         ensures rings { self.new.rings ≡ self.old.rings }
     {
         if let Err(refusal) = self.completion.push(ptr.as_value()) {
@@ -109,7 +110,8 @@ impl ReceivingEnd {
     /// Whether an offset is queued, by one look.
     pub(crate) fn has_data(&mut self) -> bool
         ensures looked { LooksForData result self.old self.new }
-        ensures kept { (settings : ConnectionSettings) → FitsReceiver settings self.old → FitsReceiver settings self.new }
+        ensures kept { (settings : ConnectionSettings) → FitsReceiver settings self.old
+            → FitsReceiver settings self.new }
         ensures rings { self.new.rings ≡ self.old.rings }
     {
         self.submission.has_value()

@@ -69,8 +69,8 @@ impl SharedPort<SendingEnd> {
 
     /// Takes all samples out of use, and calls the callback once on the offset of each, by channel, then by segment,
     /// then by index. The offset of a sample is its index times the size that the last send told of its segment on its
-    /// channel, and has to be below 2^56. What is on its way stays in its ring. So this is for a sender that is about to
-    /// end: an offset that comes back afterwards names no sample in use.
+    /// channel, and has to be below 2^56. What is on its way stays in its ring. So this is for a sender that is about
+    /// to end: an offset that comes back afterwards names no sample in use.
     pub fn acquire_used_offsets<F: FnMut(PointerOffset) + Drop>(&mut self, callback: F)
         requires acquirable { IsAcquirable self.old }
         requires callable { MayRunOver F.FnMut callback (used_on_channels self.old.channels) }

@@ -33,11 +33,11 @@ fn used_offsets_are_acquired_once(rt: HostRuntime) -> Result<(), Fail> {
     };
     let (mut sender, mut receiver) = pair(rt.alloc(), &two)?;
     let ptr = PointerOffset::new(0);
-    assert_eq!(rt; send(&rt, &mut sender, ptr, 0), Ok(None));
-    assert_eq!(rt; send(&rt, &mut sender, ptr, 1), Ok(None));
-    assert_eq!(rt; acquired(&rt, &mut sender), 2);
-    assert_eq!(rt; acquired(&rt, &mut sender), 0);
-    assert_eq!(rt; receive(&rt, &mut receiver, 1), Ok(Some(ptr)));
+    assert!(rt; send(&rt, &mut sender, ptr, 0) == Ok(None));
+    assert!(rt; send(&rt, &mut sender, ptr, 1) == Ok(None));
+    assert!(rt; acquired(&rt, &mut sender) == 2);
+    assert!(rt; acquired(&rt, &mut sender) == 0);
+    assert!(rt; receive(&rt, &mut receiver, 1) == Ok(Some(ptr)));
     Ok(())
 }
 
@@ -51,12 +51,9 @@ fn an_acquired_offset_that_overflows_is_refused(rt: HostRuntime) -> Result<(), F
     let (mut sender, mut receiver) = pair(rt.alloc(), &two)?;
     let first = PointerOffset::new(0);
     let second = PointerOffset::from_offset_and_segment_id(0, SegmentId::new(1));
-    assert_eq!(rt; send(&rt, &mut sender, first, 0), Ok(None));
-    assert_eq!(rt; acquired(&rt, &mut sender), 1);
-    assert_eq!(rt;
-        send(&rt, &mut sender, second, 0),
-        Err(ZeroCopySendError::ConnectionCorrupted)
-    );
-    assert_eq!(rt; receive(&rt, &mut receiver, 0), Ok(Some(second)));
+    assert!(rt; send(&rt, &mut sender, first, 0) == Ok(None));
+    assert!(rt; acquired(&rt, &mut sender) == 1);
+    assert!(rt; send(&rt, &mut sender, second, 0) == Err(ZeroCopySendError::ConnectionCorrupted));
+    assert!(rt; receive(&rt, &mut receiver, 0) == Ok(Some(second)));
     Ok(())
 }

@@ -25,10 +25,10 @@ fn a_full_queue_gives_the_oldest_back(rt: HostRuntime) -> Result<(), Fail> {
     let (mut sender, mut receiver) = pair(rt.alloc(), &settings(1, 1, 2, true))?;
     let first = PointerOffset::new(0);
     let second = PointerOffset::new(8);
-    assert_eq!(rt; send(&rt, &mut sender, first, 0), Ok(None));
-    assert_eq!(rt; send(&rt, &mut sender, second, 0), Ok(Some(first)));
+    assert!(rt; send(&rt, &mut sender, first, 0) == Ok(None));
+    assert!(rt; send(&rt, &mut sender, second, 0) == Ok(Some(first)));
     assert!(rt; !is_in_use(&rt, &sender, first, 0));
-    assert_eq!(rt; receive(&rt, &mut receiver, 0), Ok(Some(second)));
+    assert!(rt; receive(&rt, &mut receiver, 0) == Ok(Some(second)));
     let all = PortRest {
         sent: 2,
         received: 1,
@@ -37,7 +37,7 @@ fn a_full_queue_gives_the_oldest_back(rt: HostRuntime) -> Result<(), Fail> {
         released: 0,
         reclaimed: 0,
     };
-    assert_eq!(rt; rest_of(&rt, sender, receiver), all);
+    assert!(rt; rest_of(&rt, sender, receiver) == all);
     Ok(())
 }
 
@@ -46,14 +46,11 @@ fn a_full_queue_refuses_without_overflow(rt: HostRuntime) -> Result<(), Fail> {
     let (mut sender, mut receiver) = pair(rt.alloc(), &settings(1, 1, 2, false))?;
     let first = PointerOffset::new(0);
     let second = PointerOffset::new(8);
-    assert_eq!(rt; send(&rt, &mut sender, first, 0), Ok(None));
-    assert_eq!(rt;
-        send(&rt, &mut sender, second, 0),
-        Err(ZeroCopySendError::ReceiveBufferFull)
-    );
+    assert!(rt; send(&rt, &mut sender, first, 0) == Ok(None));
+    assert!(rt; send(&rt, &mut sender, second, 0) == Err(ZeroCopySendError::ReceiveBufferFull));
     assert!(rt; !is_in_use(&rt, &sender, second, 0));
-    assert_eq!(rt; receive(&rt, &mut receiver, 0), Ok(Some(first)));
-    assert_eq!(rt; send(&rt, &mut sender, second, 0), Ok(None));
+    assert!(rt; receive(&rt, &mut receiver, 0) == Ok(Some(first)));
+    assert!(rt; send(&rt, &mut sender, second, 0) == Ok(None));
     Ok(())
 }
 
@@ -61,11 +58,11 @@ fn a_full_queue_refuses_without_overflow(rt: HostRuntime) -> Result<(), Fail> {
 fn an_offset_comes_back_once_it_is_released(rt: HostRuntime) -> Result<(), Fail> {
     let (mut sender, mut receiver) = pair(rt.alloc(), &settings(1, 1, 1, false))?;
     let only = PointerOffset::new(0);
-    assert_eq!(rt; send(&rt, &mut sender, only, 0), Ok(None));
-    assert_eq!(rt; receive(&rt, &mut receiver, 0), Ok(Some(only)));
-    assert_eq!(rt; reclaim(&rt, &mut sender, 0), Ok(None));
-    assert_eq!(rt; release(&rt, &mut receiver, only, 0), Ok(()));
-    assert_eq!(rt; reclaim(&rt, &mut sender, 0), Ok(Some(only)));
+    assert!(rt; send(&rt, &mut sender, only, 0) == Ok(None));
+    assert!(rt; receive(&rt, &mut receiver, 0) == Ok(Some(only)));
+    assert!(rt; reclaim(&rt, &mut sender, 0) == Ok(None));
+    assert!(rt; release(&rt, &mut receiver, only, 0) == Ok(()));
+    assert!(rt; reclaim(&rt, &mut sender, 0) == Ok(Some(only)));
     assert!(rt; !is_in_use(&rt, &sender, only, 0));
     let all = PortRest {
         sent: 1,
@@ -75,7 +72,7 @@ fn an_offset_comes_back_once_it_is_released(rt: HostRuntime) -> Result<(), Fail>
         released: 1,
         reclaimed: 1,
     };
-    assert_eq!(rt; rest_of(&rt, sender, receiver), all);
+    assert!(rt; rest_of(&rt, sender, receiver) == all);
     Ok(())
 }
 
@@ -83,12 +80,12 @@ fn an_offset_comes_back_once_it_is_released(rt: HostRuntime) -> Result<(), Fail>
 fn no_more_are_borrowed_than_may_be(rt: HostRuntime) -> Result<(), Fail> {
     let (mut sender, mut receiver) = pair(rt.alloc(), &settings(2, 1, 2, false))?;
     let first = PointerOffset::new(0);
-    assert_eq!(rt; send(&rt, &mut sender, first, 0), Ok(None));
-    assert_eq!(rt; receive(&rt, &mut receiver, 0), Ok(Some(first)));
+    assert!(rt; send(&rt, &mut sender, first, 0) == Ok(None));
+    assert!(rt; receive(&rt, &mut receiver, 0) == Ok(Some(first)));
     let refused = Err(ZeroCopyReceiveError::ReceiveWouldExceedMaxBorrowValue);
-    assert_eq!(rt; receive(&rt, &mut receiver, 0), refused);
-    assert_eq!(rt; release(&rt, &mut receiver, first, 0), Ok(()));
-    assert_eq!(rt; receive(&rt, &mut receiver, 0), Ok(None));
+    assert!(rt; receive(&rt, &mut receiver, 0) == refused);
+    assert!(rt; release(&rt, &mut receiver, first, 0) == Ok(()));
+    assert!(rt; receive(&rt, &mut receiver, 0) == Ok(None));
     Ok(())
 }
 
@@ -97,12 +94,12 @@ fn a_foreign_segment_is_refused_and_gone(rt: HostRuntime) -> Result<(), Fail> {
     let (mut sender, mut receiver) = pair(rt.alloc(), &settings(1, 1, 1, false))?;
     let own = PointerOffset::new(0);
     let foreign = PointerOffset::from_offset_and_segment_id(0, SegmentId::new(7));
-    assert_eq!(rt; send(&rt, &mut sender, own, 0), Ok(None));
-    assert_eq!(rt; receive(&rt, &mut receiver, 0), Ok(Some(own)));
-    assert_eq!(rt; release(&rt, &mut receiver, foreign, 0), Ok(()));
+    assert!(rt; send(&rt, &mut sender, own, 0) == Ok(None));
+    assert!(rt; receive(&rt, &mut receiver, 0) == Ok(Some(own)));
+    assert!(rt; release(&rt, &mut receiver, foreign, 0) == Ok(()));
     let corrupted = Err(ZeroCopyReclaimError::ReceiverReturnedCorruptedPointerOffset);
-    assert_eq!(rt; reclaim(&rt, &mut sender, 0), corrupted);
-    assert_eq!(rt; reclaim(&rt, &mut sender, 0), Ok(None));
+    assert!(rt; reclaim(&rt, &mut sender, 0) == corrupted);
+    assert!(rt; reclaim(&rt, &mut sender, 0) == Ok(None));
     assert!(rt; is_in_use(&rt, &sender, own, 0));
     Ok(())
 }
@@ -113,18 +110,17 @@ fn a_full_completion_ring_refuses(rt: HostRuntime) -> Result<(), Fail> {
     let (mut sender, mut receiver) = pair(rt.alloc(), &settings(1, 1, 8, false))?;
     for index in 0..3 {
         let ptr = PointerOffset::new(index * 8);
-        assert_eq!(rt; send(&rt, &mut sender, ptr, 0), Ok(None));
-        assert_eq!(rt; receive(&rt, &mut receiver, 0), Ok(Some(ptr)));
-        assert_eq!(rt; release(&rt, &mut receiver, ptr, 0), Ok(()));
+        assert!(rt; send(&rt, &mut sender, ptr, 0) == Ok(None));
+        assert!(rt; receive(&rt, &mut receiver, 0) == Ok(Some(ptr)));
+        assert!(rt; release(&rt, &mut receiver, ptr, 0) == Ok(()));
     }
     let last = PointerOffset::new(24);
-    assert_eq!(rt; send(&rt, &mut sender, last, 0), Ok(None));
-    assert_eq!(rt; receive(&rt, &mut receiver, 0), Ok(Some(last)));
-    assert_eq!(rt;
-        release(&rt, &mut receiver, last, 0),
-        Err(ZeroCopyReleaseError::RetrieveBufferFull)
+    assert!(rt; send(&rt, &mut sender, last, 0) == Ok(None));
+    assert!(rt; receive(&rt, &mut receiver, 0) == Ok(Some(last)));
+    assert!(rt;
+        release(&rt, &mut receiver, last, 0) == Err(ZeroCopyReleaseError::RetrieveBufferFull)
     );
-    assert_eq!(rt; borrow_count(&rt, &receiver, 0), 1);
+    assert!(rt; borrow_count(&rt, &receiver, 0) == 1);
     Ok(())
 }
 
@@ -137,9 +133,9 @@ fn channels_are_apart(rt: HostRuntime) -> Result<(), Fail> {
     };
     let (mut sender, mut receiver) = pair(rt.alloc(), &two)?;
     let ptr = PointerOffset::new(0);
-    assert_eq!(rt; send(&rt, &mut sender, ptr, 1), Ok(None));
-    assert_eq!(rt; receive(&rt, &mut receiver, 0), Ok(None));
+    assert!(rt; send(&rt, &mut sender, ptr, 1) == Ok(None));
+    assert!(rt; receive(&rt, &mut receiver, 0) == Ok(None));
     assert!(rt; !is_in_use(&rt, &sender, ptr, 0));
-    assert_eq!(rt; receive(&rt, &mut receiver, 1), Ok(Some(ptr)));
+    assert!(rt; receive(&rt, &mut receiver, 1) == Ok(Some(ptr)));
     Ok(())
 }

@@ -6,7 +6,8 @@ use Rattle.cal_shared.proofs.shared_port.SharedPort.is_connected.Goals as goal
 
 pub invariant_of-self : goal.invariant_of-self
 invariant_of-self g c =
-    IsSoundPort-stepped g.E.PortEnd.Fits _ _ _ (ap (λ (p : StatePass). p.opening) c.load_port.ensures.step) c.self.invariant
+    IsSoundPort-stepped g.E.PortEnd.Fits _ _ _
+    (ap (λ (p : StatePass). p.opening) c.load_port.ensures.step) c.self.invariant
 
 pub returns-clause-loaded : goal.returns-clause-loaded
 returns-clause-loaded g c =
