@@ -20,6 +20,7 @@ mod SharingLemmas
 mod SlotLemmas
 mod StayingLemmas
 mod StayingTogetherLemmas
+mod StepLemmas
 mod TogetherLemmas
 mod ViewCallLemmas
 mod ViewLawLemmas
