@@ -1,13 +1,18 @@
 -- What a view has mapped after an offset has arrived or was given back, as its calls say it.
-use Rattle.std.proofs.Common.{ℕ, ◌+◌, ◌-◌, ◌<◌, ◌≡◌, ◌≢◌, Bool, true, false, cond, nat_eq, nat_lt, List, length, set, Option, Some, None, is_some, option_map, IsSome, inl, inr, refl, sym, ap, ◌∙◌, subst, arith}
-use Rattle.std.proofs.lemmas.Bool.{eq-eqb, ne_eqb, eqb-true, eqb-false}
+use Rattle.std.proofs.Common.{ℕ, ◌+◌, ◌-◌, ◌<◌, ◌≡◌, ◌≢◌, Bool, true, false, cond, nat_eq, nat_lt, length, set, Option, Some, None, is_some, option_map, IsSome, inl, inr, refl, sym, ap, ◌∙◌, subst, arith}
+use Rattle.std.proofs.lemmas.Bool.{true≢false, false≢true, cases_lt, eq-eqb, ne_eqb, eqb-true, eqb-false}
 use Rattle.std.proofs.lemmas.Bool.Decides.{nat_tests}
-use Rattle.std.proofs.lemmas.List.{get_or-set_same, get_or-set_other, length-set}
-use Rattle.std.proofs.lemmas.Option.{none-some, same_Some}
-use Rattle.cal_storage.specs.Contents.{is_id, found_handle}
-use Rattle.cal_resizable.specs.Slots.{Handle, Slots, HeldSegment, segment_at, count_in, count_at, counted_more, counted_less, with_more, with_less, with_segment, without_segment, without_unused}
-use Rattle.cal_resizable.specs.View.{View, with_found, mapping, registering, unregistering, without_unused_of, leaving_of, segment_path}
+use Rattle.std.proofs.lemmas.List.{get_or-set_same, get_or-set_other, get_or_past, length-set}
+use Rattle.cal_alloc.specs.Pool.{Pool}
+use Rattle.cal_storage.specs.Contents.{Contents, is_id, id_at, found_handle}
+use Rattle.cal_shm.specs.Segment.{Segment}
+use Rattle.cal_resizable.specs.Chunks.{segment_value}
+use Rattle.cal_resizable.specs.Memory.{MemoryState}
+use Rattle.cal_resizable.specs.Together.{AreTogether}
+use Rattle.cal_resizable.specs.Slots.{Slots, HeldSegment, segment_at, count_in, count_at, counted_more, counted_less, with_more, with_less, without_segment, without_unused}
+use Rattle.cal_resizable.specs.View.{View, IsView, view_after_arrival, with_found, mapping, registering, unregistering, without_unused_of, segment_path}
 use Rattle.cal_transport.specs.State.{mapped_at}
+use Rattle.cal_transport.specs.Sharing.{Arrives}
 use Rattle.cal_transport.specs.Viewing.{is_told, while_counted, opened_after_arrival, mapped_after_arrival, mapped_after_return}
 use Rattle.cal_transport.proofs.Lists.{same_or_apart}
 
@@ -121,7 +126,8 @@ module _ (view : View) (number id : ℕ) (within : number < length view.slots)
   left_here : (o : Option ℕ) → view.current ≡ o → mapped_at (without_unused_of found o) number ≡ Some 0
   left_here None e = ap count_of (set_here view.slots number _ within)
   left_here (Some n) e =
-      unused_else found n number (λ same. (current n e).0 (sym same)) ∙ ap count_of (set_here view.slots number _ within)
+      unused_else found n number (λ same. (current n e).0 (sym same)) ∙ ap count_of (set_here view.slots number _
+      within)
 
   left_else : (o : Option ℕ) (other : ℕ) → view.current ≡ o → other ≢ number →
       mapped_at (without_unused_of found o) other
@@ -233,3 +239,58 @@ module _ (view : View) (number : ℕ) (within : number < length view.slots) wher
         ≡ mapped_after_return view.current (mapped_at view.slots) number n) (sym same) gone_here
     | inr apart ↦ gone_else other apart
   ]
+
+-- ---- what an arrival is seen as
+
+held_within : (slots : Slots) (number : ℕ) → IsSome (segment_at slots number) → number < length slots
+held_within slots number held = elim (cases_lt number (length slots)) [
+  | inl below ↦ below
+  | inr past ↦ absurd (false≢true (sym (ap is_some (get_or_past slots number None past)) ∙ held))
+]
+
+pub arrives : (memory : MemoryState) (old new : Contents (Segment Pool)) (view after : View) (number : ℕ) →
+    IsView view → number < 256 → IsSome (id_at old (segment_path view number)) →
+    after ≡ view_after_arrival old view number → AreTogether new memory after →
+    ((other : ℕ) → segment_value new memory.slots other ≡ segment_value old memory.slots other) →
+    Arrives memory old view number new after
+arrives memory old new view after number sound small path_found is together segments =
+    go (is_some (segment_at view.slots number)) (id_at old (segment_path view number)) refl refl path_found
+  where
+    within : number < length view.slots
+    within = subst (λ n. number < n) (sym sound.slots) small
+
+    arrived_as : (last : Option ℕ) (slots : Slots) → after.current ≡ last → after.slots ≡ slots →
+        last ≡ opened_after_arrival view.current (mapped_at view.slots) number →
+        ((other : ℕ) → mapped_at slots other ≡ mapped_after_arrival view.current (mapped_at view.slots) number other) →
+        Arrives memory old view number new after
+    arrived_as last slots opened_is slots_are opened mapped = record {
+      together = together;
+      segments = segments;
+      opened = opened_is ∙ opened;
+      mapped = λ other. ap (λ s. mapped_at s other) slots_are ∙ mapped other;
+    }
+
+    go : (held : Bool) (id : Option ℕ) → is_some (segment_at view.slots number) ≡ held →
+        id_at old (segment_path view number) ≡ id → IsSome id → Arrives memory old view number new after
+    go held None is_held id_is none = absurd (false≢true none)
+    go true (Some id) is_held id_is some =
+        let now : after ≡ registering view number = is
+        ∙ ap (λ b. cond b (registering view number)
+        (registering (mapping view number (id_at old (segment_path view number))) number)) is_held in
+        arrived_as view.current (registering view number).slots (ap (λ (v : View). v.current) now)
+        (ap (λ (v : View). v.slots) now) (opened_mapped view number is_held)
+        (λ other. arrived_mapped view number other within is_held)
+    go false (Some id) is_held id_is some =
+        let now : after ≡ registering (mapping view number (Some id)) number = is
+        ∙ ap (λ b. cond b (registering view number)
+        (registering (mapping view number (id_at old (segment_path view number))) number)) is_held
+        ∙ ap (λ o. registering (mapping view number o) number) id_is in
+        let current = λ (n : ℕ) (told : view.current ≡ Some n). (
+        let held_n = sound.current n told in
+        let apart : n ≢ number = λ same. true≢false (sym held_n
+        ∙ ap (λ m. is_some (segment_at view.slots m)) same ∙ is_held) in
+        let both : (n ≢ number) × (n < length view.slots) = (apart, held_within view.slots n held_n) in both) in
+        arrived_as (Some number) (registering (mapping view number (Some id)) number).slots
+        (ap (λ (v : View). v.current) now) (ap (λ (v : View). v.slots) now)
+        (opened_new view number id within is_held current)
+        (arrived_new view number id within is_held current)

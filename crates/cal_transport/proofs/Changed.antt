@@ -1,15 +1,13 @@
 -- One chunk and the history of one channel change, and nothing else: what that does to tests and sums over a ledger.
-use Rattle.std.proofs.Common.{ℕ, ◌+◌, ◌<◌, ◌≡◌, ◌≢◌, Bool, true, false, cond, not, ◌&&◌, ◌||◌, nat_eq, nat_lt, List, [], ◌∷◌, length, set, Option, Some, option_to_list, inl, inr, refl, sym, ap, ◌∙◌, subst, arith}
+use Rattle.std.proofs.Common.{ℕ, ◌+◌, ◌≡◌, ◌≢◌, Bool, true, false, cond, not, ◌&&◌, ◌||◌, nat_eq, nat_lt, length, set, Option, Some, option_to_list, inl, inr, refl, sym, ap, ◌∙◌, arith}
 use Rattle.std.specs.List.{slice_get, list_any}
 use Rattle.std.proofs.lemmas.Bool.{true≢false, cases_Bool, false_from_ne_true, and_parts, and_left, or_left, or_right, eqb-true}
-use Rattle.std.proofs.lemmas.Option.{same_Some}
 use Rattle.cal_transport.specs.Ledger.{Ledger, Chunk, ChannelHistory, is_live, is_free, is_unused, is_mapped, is_in_transit, is_borrowed, is_borrowed_anywhere, live_chunks, has_name, queued_names, completed_names}
-use Rattle.cal_transport.specs.Soundness.{ShareBucket}
-use Rattle.cal_transport.specs.Weights.{total, one_if, transits, borrows, lies_in, holds, live_in, borrowed_in, transits_on, transits_in}
-use Rattle.cal_transport.proofs.Lists.{same_or_apart, slice_get-set_same, slice_get-set_else, written_or_old}
+use Rattle.cal_transport.specs.Weights.{one_if, transits, borrows, lies_in, holds, live_in, borrowed_in, transits_on, transits_in}
+use Rattle.cal_transport.proofs.Lists.{slice_get-set_same, slice_get-set_else}
 use Rattle.cal_transport.proofs.Following.{any_from}
 use Rattle.cal_transport.proofs.Settled.{IsSettled}
-use Rattle.cal_transport.proofs.Totals.{not-not, any_agree, any_none, any_set, any_alone, any_filter, total_agree, total_set, any_total, one_tells}
+use Rattle.cal_transport.proofs.Totals.{not-not, any_set, any_alone, any_filter, total_set, any_total, one_tells}
 
 -- the channel and the chunk that change
 pub record Change : Type 0 where
@@ -68,7 +66,8 @@ borrowed_transits h name borrowed =
 pub used_is : (l : Ledger) (segment bucket : ℕ) →
     not (is_free l segment bucket) ≡ holds (is_live l) l.chunks segment bucket
 used_is l segment bucket =
-    not-not (list_any (lies_in segment bucket) (live_chunks l)) ∙ any_filter (lies_in segment bucket) (is_live l) l.chunks
+    not-not (list_any (lies_in segment bucket) (live_chunks l)) ∙ any_filter (lies_in segment bucket) (is_live l)
+    l.chunks
 
 -- a segment is unused where it has no live chunk
 pub in_use_is : (l : Ledger) (segment : ℕ) → not (is_unused l segment) ≡ nat_lt 0 (live_in l segment)
@@ -114,7 +113,8 @@ module _ (l : Ledger) (x : Change) (c : Changes l x) where
   pub transits_else : (name : ℕ) → name ≢ x.old_chunk.name → transits after.histories name ≡ transits l.histories name
   transits_else name apart =
       let same = ap one_if (c.transit_else name apart) in
-      let sums = total_set (λ h. one_if (is_in_transit h name)) (λ h. one_if (is_in_transit h name)) l.histories x.channel
+      let sums = total_set (λ h. one_if (is_in_transit h name)) (λ h. one_if (is_in_transit h name)) l.histories
+      x.channel
       x.old_history x.new_history c.here (λ j z elsewhere there. refl) in omega arith
 
   pub transits_here :
@@ -176,9 +176,11 @@ module _ (l : Ledger) (x : Change) (c : Changes l x) where
 
   -- in another bucket nothing changes
   marks_else : (p p' : Chunk → Bool) (segment bucket : ℕ) → Marks p p' →
-      lies_in segment bucket x.old_chunk ≡ false → holds p' after.chunks segment bucket ≡ holds p l.chunks segment bucket
+      lies_in segment bucket x.old_chunk ≡ false → holds p' after.chunks segment bucket ≡ holds p l.chunks segment
+      bucket
   marks_else p p' segment bucket m outside =
-      any_set (λ d. lies_in segment bucket d && p d) (λ d. lies_in segment bucket d && p' d) l.chunks x.index x.old_chunk
+      any_set (λ d. lies_in segment bucket d && p d) (λ d. lies_in segment bucket d && p' d) l.chunks x.index
+      x.old_chunk
       x.new_chunk c.stands
       (and_left (lies_in segment bucket x.new_chunk) (p' x.new_chunk) (lies_after segment bucket ∙ outside)
       ∙ sym (and_left (lies_in segment bucket x.old_chunk) (p x.old_chunk) outside))
@@ -225,7 +227,8 @@ module _ (l : Ledger) (x : Change) (c : Changes l x) where
       ((j : ℕ) (d : Chunk) → j ≢ x.index → slice_get l.chunks j ≡ Some d → p' d ≡ p d) →
       p' x.new_chunk ≡ p x.old_chunk → holds p' after.chunks segment bucket ≡ holds p l.chunks segment bucket
   marks_same p p' segment bucket agree same =
-      any_set (λ d. lies_in segment bucket d && p d) (λ d. lies_in segment bucket d && p' d) l.chunks x.index x.old_chunk
+      any_set (λ d. lies_in segment bucket d && p d) (λ d. lies_in segment bucket d && p' d) l.chunks x.index
+      x.old_chunk
       x.new_chunk c.stands
       (ap (λ b. b && p' x.new_chunk) (lies_after segment bucket)
       ∙ ap (λ b. lies_in segment bucket x.old_chunk && b) same)

@@ -1,17 +1,16 @@
 -- What the ports show of a ledger where one chunk and one channel's history change: of every other channel, and of the
 -- changed one by what became of its entry.
-use Rattle.std.proofs.Common.{ℕ, ◌+◌, ◌*◌, ◌<◌, ◌≡◌, ◌≢◌, Bool, true, false, ◌⊎◌, List, map, set, Some, inl, inr, refl, sym, ap, ◌∙◌, subst, arith}
+use Rattle.std.proofs.Common.{ℕ, ◌+◌, ◌*◌, ◌<◌, ◌≡◌, ◌≢◌, Bool, true, false, ◌⊎◌, map, Some, inl, inr, refl, sym, ap, ◌∙◌, subst, arith}
 use Rattle.std.specs.List.{slice_get}
-use Rattle.std.proofs.lemmas.Bool.{true≢false}
 use Rattle.std.proofs.lemmas.Option.{same_Some}
 use Rattle.cal_queue.specs.UsedChunks.{contains, capacity_of}
 use Rattle.cal_connection.specs.Channel as channel
 use Rattle.cal_transport.specs.Ledger.{Ledger, Chunk, ChannelHistory, layout_at, is_live, is_in_transit, is_borrowed, borrow_count, queued_names, completed_names}
-use Rattle.cal_transport.specs.Weights.{lies_in, holds, transits_on, one_if}
+use Rattle.cal_transport.specs.Weights.{lies_in, one_if}
 use Rattle.cal_transport.specs.Core.{Core}
-use Rattle.cal_transport.specs.Shown.{ShowsChannel, TracksChannel, pointer_named, connection_settings}
+use Rattle.cal_transport.specs.Shown.{ShowsChannel, TracksChannel, pointer_named}
 use Rattle.cal_transport.proofs.Lists.{same_or_apart, slice_get-set_else}
-use Rattle.cal_transport.proofs.Changed.{Change, Changes, changed, other_name, stood, stands_after, here_after, lies_there, mark_right, marks_same, marks_transit, marks_borrowed, transits_on-after, transits_on-else}
+use Rattle.cal_transport.proofs.Changed.{Change, Changes, changed, other_name, stood, stands_after, lies_there, mark_right, marks_same, marks_transit, marks_borrowed, transits_on-after, transits_on-else}
 use Rattle.cal_transport.proofs.Kept.{pointers-after}
 
 -- the channel is as it was, and so is what the receiver counts there
@@ -35,8 +34,7 @@ module _ (l : Ledger) (x : Change) (c : Changes l x) where
   name_stood i chunk there = elim (same_or_apart i x.index) [
     | inl here ↦
         let is : chunk ≡ x.new_chunk = same_Some chunk x.new_chunk
-        (sym there ∙ ap (slice_get after.chunks) here ∙ stands_after l x c) in
-        (
+        (sym there ∙ ap (slice_get after.chunks) here ∙ stands_after l x c) in (
           x.old_chunk,
           ap (slice_get l.chunks) here ∙ c.stands,
           ap (λ (d : Chunk). d.name) is ∙ c.name,
@@ -116,7 +114,8 @@ module _ (l : Ledger) (x : Change) (c : Changes l x) where
 
   size_at : (p p' : Core) → MovesTo p p' → ShowsChannel p l x.channel x.old_history → (i : ℕ) (before : Chunk) →
       slice_get l.chunks i ≡ Some before → is_in_transit x.old_history before.name ≡ true →
-      (channel.segment_at (p'.channel x.channel).segments before.segment).sample_size ≡ (layout_at l before.segment).size
+      (channel.segment_at (p'.channel x.channel).segments before.segment).sample_size ≡ (layout_at l
+      before.segment).size
   size_at p p' moves shows i before there transit = elim (same_or_apart before.segment x.old_chunk.segment) [
     | inl same ↦ elim (moves.sizes_here) [
       | inl kept ↦ ap (λ s. (channel.segment_at (p'.channel x.channel).segments s).sample_size) same ∙ kept
@@ -172,7 +171,8 @@ module _ (l : Ledger) (x : Change) (c : Changes l x) where
         (channel.is_used (p'.channel x.channel).segments segment bucket) (marks_transit l x c alive)
         (shows.used segment bucket) (moves.used_else segment bucket)
         (λ inside. at_there segment bucket (channel.is_used (p'.channel x.channel).segments)
-        (is_in_transit x.new_history x.old_chunk.name) inside moves.used_here ∙ ap (is_in_transit x.new_history) (sym c.name));
+        (is_in_transit x.new_history x.old_chunk.name) inside moves.used_here ∙ ap (is_in_transit x.new_history) (sym
+        c.name));
     sizes = size_after p p' moves shows;
   }
 

@@ -1,5 +1,5 @@
 -- A discard is a step: the loan ends, and the bucket comes back where the chunk isn't in transit on any channel.
-use Rattle.std.proofs.Common.{ℕ, ◌+◌, ◌*◌, ◌<◌, ◌≤◌, ◌≡◌, ◌≢◌, true, false, cond, ◌||◌, nat_lt, length, map, set, Option, Some, None, inl, refl, sym, ap, ◌∙◌, subst, arith}
+use Rattle.std.proofs.Common.{ℕ, ◌+◌, ◌*◌, ◌≡◌, true, false, ◌||◌, nat_lt, length, set, Some, None, inl, refl, sym, ap, ◌∙◌, subst, arith}
 use Rattle.std.specs.List.{slice_get}
 use Rattle.std.proofs.lemmas.Bool.{true≢false}
 use Rattle.std.proofs.lemmas.Option.{slice_get-get_or}
@@ -9,10 +9,10 @@ use Rattle.cal_transport.specs.declared.command.Command.TheVariants as command
 use Rattle.cal_transport.specs.declared.reply.Reply.{Reply}
 use Rattle.cal_transport.specs.declared.reply.Reply.TheVariants.{Discarded, Refused}
 use Rattle.cal_transport.specs.declared.reply.Refusal.TheVariants.{NotLoaned}
-use Rattle.cal_transport.specs.Ledger.{Ledger, Chunk, ChannelHistory, new_history, chunk_named, if_loaned, loaned_chunk, is_live, is_in_transit, is_borrowed}
+use Rattle.cal_transport.specs.Ledger.{Ledger, Chunk, ChannelHistory, new_history, loaned_chunk, is_live}
 use Rattle.cal_transport.specs.Cause.{discard_cause}
-use Rattle.cal_transport.specs.Step.{with_changed_chunk, after_command}
-use Rattle.cal_transport.specs.Weights.{transits, borrows, one_if}
+use Rattle.cal_transport.specs.Step.{after_command}
+use Rattle.cal_transport.specs.Weights.{transits, borrows}
 use Rattle.cal_transport.specs.Core.{Core, GivesBack}
 use Rattle.cal_transport.specs.Shown.{Shows, Tracks, ShowsMapped, ShowsChannel, entry_of}
 use Rattle.cal_transport.proofs.Lists.{set_there}

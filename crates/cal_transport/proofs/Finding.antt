@@ -1,10 +1,10 @@
 -- The entry that a name leads to is that of its chunk.
-use Rattle.std.proofs.Common.{ℕ, suc, zero, ◌<◌, ◌≡◌, ◌≢◌, Bool, true, false, cond, nat_eq, List, [], ◌∷◌, map, Option, Some, None, option_map, find, refl, sym, ap, ◌∙◌, subst, arith}
+use Rattle.std.proofs.Common.{ℕ, suc, zero, ◌≡◌, true, false, cond, List, [], ◌∷◌, map, Option, Some, None, refl, sym, ap, ◌∙◌, subst, arith}
 use Rattle.std.specs.List.{slice_get}
-use Rattle.std.proofs.lemmas.Option.{same_Some, none-some, slice_get-map}
+use Rattle.std.proofs.lemmas.Option.{same_Some, none-some}
 use Rattle.cal_transport.specs.declared.ported.chunk_entry.ChunkEntry.{ChunkEntry}
 use Rattle.cal_transport.specs.declared.ported.chunk_entry.Found.{Found}
-use Rattle.cal_transport.specs.Ledger.{Ledger, Chunk, ChannelHistory, chunk_named, if_loaned, loaned_chunk}
+use Rattle.cal_transport.specs.Ledger.{Ledger, Chunk, chunk_named, if_loaned, loaned_chunk}
 use Rattle.cal_transport.specs.Soundness.{AreNamed}
 use Rattle.cal_transport.specs.ChunkEntry.{AreRising, HasNoEntry, IsFound}
 use Rattle.cal_transport.specs.Core.{Core}

@@ -1,26 +1,27 @@
 -- A pointer that a queue gives leads to the chunk of the queue's first name, which is in transit and lies in an active
 -- segment.
-use Rattle.std.proofs.Common.{ℕ, ◌+◌, ◌*◌, ◌/◌, ◌%◌, ◌<◌, ◌≤◌, ◌≡◌, ◌≢◌, true, nat_lt, List, [], ◌∷◌, length, map, Option, Some, None, option_map, refl, sym, ap, ◌∙◌, subst, arith}
+use Rattle.std.proofs.Common.{ℕ, ◌*◌, ◌/◌, ◌<◌, ◌≤◌, ◌≡◌, true, nat_lt, nat_eq, ◌&&◌, ◌||◌, List, [], ◌∷◌, length, map, Option, Some, None, option_map, refl, sym, ap, ◌∙◌, subst, arith}
 use Rattle.std.specs.List.{slice_get}
-use Rattle.std.proofs.lemmas.Bool.{true≢false, lt-ltb, ltb-true}
+use Rattle.std.proofs.lemmas.Bool.{true≢false, and_from, or_right, eq-eqb, lt-ltb}
 use Rattle.std.proofs.lemmas.Option.{same_Some, none-some, slice_get-get_or, slice_get-map}
 use Rattle.std.proofs.Math.Nat.{mul-div_cancel}
 use Rattle.cal_alloc.specs.Growth.{SegmentLayout}
-use Rattle.cal_alloc.specs.PointerOffset.{pointer_offset, offset_of, segment_of}
+use Rattle.cal_alloc.specs.PointerOffset.{offset_of, segment_of}
 use Rattle.cal_transport.specs.declared.reply.Slot.{Slot}
 use Rattle.cal_transport.specs.declared.ported.chunk_entry.ChunkEntry.{ChunkEntry}
-use Rattle.cal_transport.specs.Settings.{payload}
-use Rattle.cal_transport.specs.Ledger.{Ledger, Chunk, ChannelHistory, layout_at, chunk_named, is_live, is_in_transit}
+use Rattle.cal_transport.specs.Ledger.{Ledger, Chunk, ChannelHistory, layout_at, current, chunk_named, is_live, is_in_transit}
 use Rattle.cal_transport.specs.Parts.{weight}
 use Rattle.cal_transport.specs.Step.{front, slot_of, slot_named}
 use Rattle.cal_transport.specs.Soundness.{HasSizes}
 use Rattle.cal_transport.specs.ChunkEntry.{LeadsToEntry}
+use Rattle.cal_transport.specs.Weights.{live_in, one_if}
 use Rattle.cal_transport.specs.Core.{Core, ActiveSegment}
 use Rattle.cal_transport.specs.Shown.{is_active, ShowsSegment, ShowsActive, Shows, Tracks, pointer_to, pointer_of, pointer_named, entry_of}
 use Rattle.cal_transport.proofs.Names.{is_in_transit-weight}
 use Rattle.cal_transport.proofs.Steps.{find_first}
 use Rattle.cal_transport.proofs.Settled.{IsSettled}
-use Rattle.cal_transport.proofs.Changed.{transit_lives}
+use Rattle.cal_transport.proofs.Totals.{total_least}
+use Rattle.cal_transport.proofs.Kept.{active_is}
 
 -- ---- where a chunk lies
 
@@ -153,8 +154,7 @@ pub led : (p : Core) (l : Ledger) (i : ℕ) (chunk : Chunk) (index : ℕ) (entry
     slice_get (p.owners chunk.segment) chunk.bucket ≡ Some index → slice_get p.entries index ≡ Some entry →
     (index ≡ i) × (entry ≡ entry_of l.histories chunk)
 led p l i chunk index entry shows tracks there alive owner stands =
-    let same = same_Some index i (sym owner ∙ tracks.owners i chunk there alive) in
-    (
+    let same = same_Some index i (sym owner ∙ tracks.owners i chunk there alive) in (
       same,
       same_Some entry (entry_of l.histories chunk)
           (sym stands ∙ ap (slice_get p.entries) same ∙ entry_at p l i chunk shows there),
@@ -175,3 +175,17 @@ slot_at l s i chunk names rest pointer there names_are is =
     ap (λ ns. slot_named l (front ns)) names_are ∙ ap (option_map (slot_of l)) (named l s i chunk there)
     ∙ ap (λ n. slot n (chunk.bucket * (layout_at l chunk.segment).size)) (sym p.segment ∙ ap segment_of (sym is))
     ∙ ap (slot (segment_of pointer)) (sym p.offset ∙ ap offset_of (sym is))
+
+-- a live chunk's segment is active
+pub alive_active : (l : Ledger) → IsSettled l → (i : ℕ) (chunk : Chunk) → slice_get l.chunks i ≡ Some chunk →
+    is_live l chunk ≡ true → is_active l chunk.segment ≡ true
+alive_active l s i chunk there alive =
+    let within = (s.within i chunk there).segment in
+    let least = total_least (λ d. one_if (nat_eq d.segment chunk.segment && is_live l d)) l.chunks i chunk there in
+    let counts = ap (λ b. one_if (b && is_live l chunk)) (eq-eqb chunk.segment chunk.segment refl) ∙ ap one_if alive in
+    active_is l chunk.segment
+    ∙ and_from (nat_lt chunk.segment (length l.segments))
+    (nat_eq chunk.segment (current l) || nat_lt 0 (live_in l chunk.segment))
+    (lt-ltb chunk.segment (length l.segments) within)
+    (or_right (nat_eq chunk.segment (current l)) (nat_lt 0 (live_in l chunk.segment))
+    (lt-ltb 0 (live_in l chunk.segment) (omega arith)))

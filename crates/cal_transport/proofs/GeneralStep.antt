@@ -1,20 +1,20 @@
 -- The general step: one chunk's entry, one bucket's mark and one channel change. What the parts show then.
-use Rattle.std.proofs.Common.{ℕ, ◌+◌, ◌<◌, ◌≡◌, ◌≢◌, Bool, true, false, nat_lt, List, length, set, Some, inl, inr, refl, sym, ap, ◌∙◌, subst, arith}
+use Rattle.std.proofs.Common.{ℕ, ◌+◌, ◌<◌, ◌≡◌, ◌≢◌, true, length, set, Some, inl, inr, refl, sym, ap, ◌∙◌, subst, arith}
 use Rattle.std.specs.List.{slice_get}
 use Rattle.std.proofs.lemmas.Bool.{lt-ltb, ltb-true}
 use Rattle.std.proofs.lemmas.List.{length-set}
 use Rattle.std.proofs.lemmas.Option.{same_Some}
 use Rattle.cal_transport.specs.Ledger.{Ledger, Chunk, ChannelHistory, layout_at, is_live, is_in_transit}
 use Rattle.cal_transport.specs.Parts.{weight, IsOrderly}
-use Rattle.cal_transport.specs.Soundness.{LiesWithin, ShareBucket, IsSentChunk}
-use Rattle.cal_transport.specs.Weights.{transits, transits_in}
+use Rattle.cal_transport.specs.Soundness.{LiesWithin, IsSentChunk}
+use Rattle.cal_transport.specs.Weights.{transits}
 use Rattle.cal_transport.specs.Core.{Core}
 use Rattle.cal_transport.specs.Shown.{ShowsActive, ShowsMapped, ShowsChannel, TracksChannel, Shows, Tracks, entry_of}
 use Rattle.cal_transport.proofs.Lists.{same_or_apart, slice_get-set_else}
 use Rattle.cal_transport.proofs.Names.{is_in_transit-weight}
 use Rattle.cal_transport.proofs.Settled.{IsSettled}
-use Rattle.cal_transport.proofs.Changed.{Change, Changes, changed, other_name, stood, stands_after, here_after, live_else, transits_in-after}
-use Rattle.cal_transport.proofs.Kept.{ShowsAllBytes, Owns, entries_after, owners_after}
+use Rattle.cal_transport.proofs.Changed.{Change, Changes, changed, stood, stands_after, here_after, live_else, transits_in-after}
+use Rattle.cal_transport.proofs.Kept.{ShowsAllBytes, entries_after, owners_after}
 use Rattle.cal_transport.proofs.Channels.{SameChannel, SameTracks, MovesTo, TracksTo, channel_else, tracks_else, channel_here, tracks_here, else_history, name_stood}
 
 module _ (l : Ledger) (x : Change) (c : Changes l x) where
@@ -98,8 +98,7 @@ module _ (l : Ledger) (x : Change) (c : Changes l x) where
   lived s i a there living = elim (same_or_apart i x.index) [
     | inl here ↦
         let is : a ≡ x.new_chunk = same_Some a x.new_chunk
-        (sym there ∙ ap (slice_get after.chunks) here ∙ stands_after l x c) in
-        (
+        (sym there ∙ ap (slice_get after.chunks) here ∙ stands_after l x c) in (
           x.old_chunk,
           ap (slice_get l.chunks) here ∙ c.stands,
           s.lives (ap (is_live after) (sym is) ∙ living),

@@ -1,5 +1,5 @@
 -- A memory has grown by a segment, of which no chunk is out yet: the parts show the ledger that has this segment too.
-use Rattle.std.proofs.Common.{ℕ, suc, ◌+◌, ◌-◌, ◌*◌, ◌<◌, ◌≤◌, ◌≡◌, ◌≢◌, Bool, true, false, cond, not, ◌&&◌, ◌||◌, nat_eq, nat_lt, List, [], ◌∷◌, ◌++◌, length, get_or, map, Option, Some, None, inl, inr, refl, sym, ap, ◌∙◌, subst, arith, length-append}
+use Rattle.std.proofs.Common.{ℕ, suc, ◌+◌, ◌-◌, ◌*◌, ◌<◌, ◌≤◌, ◌≡◌, ◌≢◌, Bool, true, false, cond, not, ◌&&◌, ◌||◌, nat_eq, nat_lt, List, [], ◌∷◌, ◌++◌, length, get_or, Option, Some, None, inl, inr, refl, sym, ap, ◌∙◌, subst, arith, length-append}
 use Rattle.std.specs.List.{slice_get}
 use Rattle.std.proofs.lemmas.Bool.{true≢false, eq-eqb, ne_eqb, lt-ltb, ltb-true, and_left, and_parts}
 use Rattle.std.proofs.lemmas.Bool.Decides.{nat_tests}
@@ -11,10 +11,10 @@ use Rattle.cal_alloc.specs.PointerOffset.{pointer_offset}
 use Rattle.cal_queue.specs.UsedChunks.{contains, capacity_of}
 use Rattle.cal_connection.specs.Channel as channel
 use Rattle.cal_transport.specs.Settings.{payload}
-use Rattle.cal_transport.specs.Ledger.{Ledger, Chunk, ChannelHistory, layout_at, current, chunk_named, is_live, is_free, is_unused, is_in_transit, queued_names, completed_names}
-use Rattle.cal_transport.specs.Weights.{lies_in, holds, live_in, one_if, total}
+use Rattle.cal_transport.specs.Ledger.{Ledger, Chunk, ChannelHistory, layout_at, current, chunk_named, is_live, is_free, is_unused, queued_names, completed_names}
+use Rattle.cal_transport.specs.Weights.{lies_in, live_in, one_if, total}
 use Rattle.cal_transport.specs.Core.{Core, ActiveSegment, if_active}
-use Rattle.cal_transport.specs.Shown.{is_active, ShowsSegment, ShowsActive, ShowsBytes, ShowsMapped, ShowsChannel, TracksChannel, Shows, Tracks, pointer_to, pointer_of, pointer_named, bytes_at}
+use Rattle.cal_transport.specs.Shown.{is_active, ShowsSegment, ShowsActive, ShowsMapped, ShowsChannel, Shows, Tracks, pointer_to, pointer_of, pointer_named, bytes_at}
 use Rattle.cal_transport.proofs.Lists.{same_or_apart, map_agree}
 use Rattle.cal_transport.proofs.Steps.{find_stands}
 use Rattle.cal_transport.proofs.Settled.{IsSettled}
@@ -200,7 +200,8 @@ module _ (p p' : Core) (l : Ledger) (s : IsSettled l) (next : SegmentLayout) (fr
     where
       at_current : (o : Option ActiveSegment) → p.active p.current ≡ o → ShowsActive l p.current o →
           ShowsActive end p.current (p'.active p.current)
-      at_current (Some shown) is s = subst (ShowsActive end p.current) (sym (g.former shown is)) (former_shown shown s.1)
+      at_current (Some shown) is s = subst (ShowsActive end p.current) (sym (g.former shown is)) (former_shown shown
+          s.1)
       at_current None is inactive = absurd (true≢false (sym (active_is l p.current
           ∙ ap (λ b. b && (nat_eq p.current (current l) || nat_lt 0 (live_in l p.current)))
           (lt-ltb p.current (length l.segments) (let n = next_is in omega arith))
@@ -291,7 +292,8 @@ module _ (p p' : Core) (l : Ledger) (s : IsSettled l) (next : SegmentLayout) (fr
     channels = λ k h here. (let t = tracks.channels k h here in let same = g.tracks k in record {
       room = ap capacity_of same.lent ∙ t.room;
       lent = λ segment bucket inside below.
-          ap (λ used. contains used (segment * l.settings.samples + bucket)) same.lent ∙ t.lent segment bucket inside below;
+          ap (λ used. contains used (segment * l.settings.samples + bucket)) same.lent ∙ t.lent segment bucket inside
+          below;
       transits = same.transits ∙ t.transits;
     });
     owners = λ i chunk there living. (

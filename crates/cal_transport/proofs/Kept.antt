@@ -1,20 +1,20 @@
 -- What the parts show of a ledger where one chunk and one channel's history change: the parts that this leaves.
-use Rattle.std.proofs.Common.{ℕ, zero, suc, ◌+◌, ◌-◌, ◌*◌, ◌<◌, ◌≤◌, ◌≡◌, ◌≢◌, Bool, true, false, cond, not, ◌&&◌, ◌||◌, nat_eq, nat_lt, List, [], ◌∷◌, length, map, set, Option, Some, None, option_map, option_to_list, find, inl, inr, refl, sym, ap, ◌∙◌, subst, arith}
+use Rattle.std.proofs.Common.{ℕ, zero, suc, ◌-◌, ◌≤◌, ◌≡◌, ◌≢◌, Bool, true, false, cond, not, ◌&&◌, ◌||◌, nat_eq, nat_lt, List, [], ◌∷◌, length, map, set, Option, Some, None, option_map, option_to_list, find, inl, inr, refl, sym, ap, ◌∙◌, subst, arith}
 use Rattle.std.specs.List.{slice_get}
 use Rattle.std.proofs.lemmas.Bool.{true≢false, cases_Bool, and_from, or_right, cases_lt, eq-eqb, ne_eqb, lt-ltb}
 use Rattle.std.proofs.lemmas.Option.{same_Some, none-some}
 use Rattle.std.proofs.lemmas.List.{get_or_past, length-set}
 use Rattle.cal_alloc.specs.Pool.{Pool, is_used, with_mark}
 use Rattle.cal_transport.specs.Settings.{payload}
-use Rattle.cal_transport.specs.Ledger.{Ledger, Chunk, ChannelHistory, layout_at, current, chunk_named, is_live, is_free, is_unused, is_mapped, is_in_transit, has_name}
-use Rattle.cal_transport.specs.Weights.{transits, borrows, one_if, live_in, borrowed_in}
+use Rattle.cal_transport.specs.Ledger.{Ledger, Chunk, layout_at, current, chunk_named, is_live, is_free, is_mapped, has_name}
+use Rattle.cal_transport.specs.Weights.{borrows, one_if, live_in, borrowed_in}
 use Rattle.cal_transport.specs.declared.ported.chunk_entry.ChunkEntry.{ChunkEntry}
 use Rattle.cal_transport.specs.Core.{Core, ActiveSegment, without_bucket, if_active, given_back, GivesBack}
 use Rattle.cal_transport.specs.Shown.{is_active, ShowsSegment, ShowsActive, ShowsBytes, ShowsMapped, pointer_to, pointer_of, pointer_named, entry_of}
 use Rattle.cal_transport.proofs.Changing.{mark_here, mark_else}
 use Rattle.cal_transport.proofs.Totals.{and-false, total_least}
 use Rattle.cal_transport.proofs.Lists.{same_or_apart, map-set_agree, map_agree}
-use Rattle.cal_transport.proofs.Changed.{Change, Changes, changed, live_is, used_is, in_use_is, mapped_is, lies_there, other_name, transits_else, live_else, stood, stands_after, mark_right, marks_same, marks_live, live_in-after, borrowed_in-after}
+use Rattle.cal_transport.proofs.Changed.{Change, Changes, changed, used_is, in_use_is, mapped_is, lies_there, other_name, transits_else, live_else, stood, stands_after, mark_right, marks_same, marks_live, live_in-after, borrowed_in-after}
 
 -- ---- segments
 
@@ -59,7 +59,8 @@ find_set : {A B : Type 0} (p : A → Bool) (f : A → B) (xs : List A) (i : ℕ)
 find_set p f [] i x y stands same maps = absurd (none-some x stands)
 find_set p f (z ∷ xs) zero x y stands same maps =
     let here = same_Some z x stands in
-    ap (λ b. option_map f (cond b (Some y) (find p xs))) (same ∙ ap p (sym here)) ∙ by_test (p z) (maps ∙ ap f (sym here))
+    ap (λ b. option_map f (cond b (Some y) (find p xs))) (same ∙ ap p (sym here)) ∙ by_test (p z) (maps ∙ ap f (sym
+    here))
   where
     by_test : (b : Bool) → f y ≡ f z →
         option_map f (cond b (Some y) (find p xs)) ≡ option_map f (cond b (Some z) (find p xs))
@@ -199,7 +200,8 @@ module _ (l : Ledger) (x : Change) (c : Changes l x) where
 
       is : is_active after x.old_chunk.segment ≡ (nat_eq x.old_chunk.segment (current l) || nat_lt 0 shown.chunks)
       is = active_is after x.old_chunk.segment
-          ∙ ap (λ b. b && (nat_eq x.old_chunk.segment (current l) || nat_lt 0 (live_in after x.old_chunk.segment))) within
+          ∙ ap (λ b. b && (nat_eq x.old_chunk.segment (current l) || nat_lt 0 (live_in after x.old_chunk.segment)))
+          within
           ∙ ap (λ n. nat_eq x.old_chunk.segment (current l) || nat_lt 0 n) (sym live ∙ sym counted)
 
       by_test : (b : Bool) → (nat_eq x.old_chunk.segment (current l) || nat_lt 0 shown.chunks) ≡ b →

@@ -105,7 +105,8 @@ module _ (l : Ledger) (s : IsSettled l) (k i : ℕ) (h now : ChannelHistory) (ch
   -- what becomes of the parts, but of the channel itself
   pub record LeavesAt (p p' : Core) : Type 0 where
     pub settings : p'.settings ≡ p.settings
-    pub memory : GivesBack p p' (chunk.loaned || nat_lt 0 (transits l.histories chunk.name - 1)) chunk.segment chunk.bucket
+    pub memory : GivesBack p p' (chunk.loaned || nat_lt 0 (transits l.histories chunk.name - 1)) chunk.segment
+        chunk.bucket
     pub opened_last : p'.opened_last ≡ p.opened_last
     pub mapped : (segment : ℕ) → p'.mapped segment ≡ p.mapped segment
     pub others : (other : ℕ) → other ≢ k → SameChannel p p' other
@@ -137,7 +138,8 @@ module _ (l : Ledger) (s : IsSettled l) (k i : ℕ) (h now : ChannelHistory) (ch
       lent_here = λ inside below.
           ap (λ used. contains used (chunk.segment * l.settings.samples + chunk.bucket)) r.lent
           ∙ lent_stays inside below;
-      transits = (let t = r.transits in let was = ap one_if leaves.was in let is = ap one_if leaves.gone in omega arith);
+      transits = (let t = r.transits in let was = ap one_if leaves.was in let is = ap one_if leaves.gone in omega
+          arith);
     }
 
     steps : StepsTo l change leaving_changes p p'

@@ -1,5 +1,5 @@
 -- A bucket of the current segment is handed out: the parts show the ledger with the new chunk.
-use Rattle.std.proofs.Common.{ℕ, zero, suc, ◌+◌, ◌-◌, ◌*◌, ◌/◌, ◌<◌, ◌≤◌, ◌≡◌, ◌≢◌, Bool, true, false, cond, not, ◌&&◌, ◌||◌, nat_eq, nat_lt, List, [], ◌∷◌, ◌++◌, length, get_or, map, set, replicate, Option, Some, None, option_to_list, inl, inr, refl, sym, ap, ◌∙◌, subst, arith, mul-le-mul_left, drop_of_length-le}
+use Rattle.std.proofs.Common.{ℕ, zero, suc, ◌+◌, ◌*◌, ◌<◌, ◌≤◌, ◌≡◌, ◌≢◌, Bool, true, false, cond, not, ◌&&◌, ◌||◌, nat_eq, nat_lt, List, [], ◌∷◌, ◌++◌, length, get_or, map, set, replicate, Option, Some, None, option_to_list, inl, inr, refl, sym, ap, ◌∙◌, subst, arith, mul-le-mul_left, drop_of_length-le}
 use Rattle.std.specs.List.{slice_get, find}
 use Rattle.std.proofs.lemmas.Bool.{true≢false, and_from, or_left, or_right, eq-eqb, ne_eqb, lt-ltb, false_from_ne_true}
 use Rattle.std.proofs.lemmas.List.{append-nil, length-replicate, length-set, length-map, map-append}
@@ -7,15 +7,14 @@ use Rattle.std.proofs.lemmas.Option.{same_Some, none-some, slice_get-get_or}
 use Rattle.cal_alloc.specs.Pool.{is_used, with_mark}
 use Rattle.cal_queue.specs.UsedChunks.{contains, capacity_of}
 use Rattle.cal_connection.specs.Channel as channel
-use Rattle.cal_transport.specs.Settings.{payload}
-use Rattle.cal_transport.specs.Ledger.{Ledger, Chunk, ChannelHistory, layout_at, current, chunk_named, is_live, is_free, is_mapped, is_in_transit, is_borrowed, queued_names, completed_names, occurrences, has_name}
+use Rattle.cal_transport.specs.Ledger.{Ledger, Chunk, ChannelHistory, layout_at, current, is_live, is_free, is_mapped, is_in_transit, is_borrowed, queued_names, completed_names, occurrences, has_name}
 use Rattle.cal_transport.specs.Parts.{weight}
 use Rattle.cal_transport.specs.Step.{new_chunk, with_bytes}
 use Rattle.cal_transport.specs.Soundness.{AreNamed}
 use Rattle.cal_transport.specs.declared.ported.chunk_entry.ChunkEntry.{ChunkEntry}
-use Rattle.cal_transport.specs.Weights.{lies_in, holds, live_in, borrowed_in, transits, borrows, transits_on, transits_in, one_if, total}
+use Rattle.cal_transport.specs.Weights.{lies_in, holds, live_in, borrowed_in, transits, borrows, one_if}
 use Rattle.cal_transport.specs.Core.{Core, ActiveSegment}
-use Rattle.cal_transport.specs.Shown.{is_active, ShowsSegment, ShowsActive, ShowsBytes, ShowsMapped, ShowsChannel, TracksChannel, Shows, Tracks, pointer_to, pointer_of, pointer_named, entry_of, bytes_at}
+use Rattle.cal_transport.specs.Shown.{is_active, ShowsSegment, ShowsActive, ShowsBytes, ShowsMapped, ShowsChannel, TracksChannel, Shows, Tracks, pointer_of, pointer_named, entry_of, bytes_at}
 use Rattle.cal_transport.proofs.Changing.{mark_here, mark_else}
 use Rattle.cal_transport.proofs.Lending.{not_free}
 use Rattle.cal_transport.proofs.Lists.{same_or_apart, slice_get-set_same, slice_get-set_else, old_or_new}
@@ -119,10 +118,12 @@ module _ (p p' : Core) (l : Ledger) (s : IsSettled l) (place bucket : ℕ) (name
       true≢false (sym (borrowed_transits h place borrowed) ∙ never_sent k h here))
 
   no_transits : transits l.histories place ≡ 0
-  no_transits = total_none (λ h. one_if (is_in_transit h place)) l.histories (λ k h here. ap one_if (never_sent k h here))
+  no_transits = total_none (λ h. one_if (is_in_transit h place)) l.histories (λ k h here. ap one_if (never_sent k h
+      here))
 
   no_borrows : borrows l.histories place ≡ 0
-  no_borrows = total_none (λ h. one_if (is_borrowed h place)) l.histories (λ k h here. ap one_if (never_borrowed k h here))
+  no_borrows = total_none (λ h. one_if (is_borrowed h place)) l.histories (λ k h here. ap one_if (never_borrowed k h
+      here))
 
   -- ---- segments
 
@@ -242,8 +243,7 @@ module _ (p p' : Core) (l : Ledger) (s : IsSettled l) (place bucket : ℕ) (name
   active_end : (segment : ℕ) → ShowsActive end segment (p'.active segment)
   active_end segment = elim (same_or_apart segment (current l)) [
     | inl same ↦ subst (λ n. ShowsActive end n (p'.active n)) (sym same)
-        (subst (ShowsActive end (current l)) (sym here_is)
-        (
+        (subst (ShowsActive end (current l)) (sym here_is) (
           here_active,
           lent_segment has_current.shown (r.marked has_current.shown has_current.has) has_current.was,
         ))
@@ -296,7 +296,8 @@ module _ (p p' : Core) (l : Ledger) (s : IsSettled l) (place bucket : ℕ) (name
     where
       all_over : (m bytes : List ℕ) → length bytes ≡ length m → with_bytes m 0 bytes ≡ bytes
       all_over m bytes long =
-          ap (λ rest. bytes ++ rest) (drop_of_length-le m (let all : length m ≤ 0 + length bytes = omega arith in all)) ∙ append-nil bytes
+          ap (λ rest. bytes ++ rest) (drop_of_length-le m (let all : length m ≤ 0 + length bytes = omega arith in
+          all)) ∙ append-nil bytes
 
   bytes_end : (i : ℕ) (chunk : Chunk) (shown : ActiveSegment) → slice_get end.chunks i ≡ Some chunk →
       is_live end chunk ≡ true → p'.active chunk.segment ≡ Some shown → ShowsBytes end chunk shown
@@ -390,7 +391,8 @@ module _ (p p' : Core) (l : Ledger) (s : IsSettled l) (place bucket : ℕ) (name
       record {
         room = ap capacity_of same.lent ∙ t.room;
         lent = λ segment there in_it below.
-            ap (λ used. contains used (segment * l.settings.samples + there)) same.lent ∙ t.lent segment there in_it below
+            ap (λ used. contains used (segment * l.settings.samples + there)) same.lent ∙ t.lent segment there in_it
+            below
             ∙ sym (marks_end (λ d. is_borrowed h d.name) segment there (never_borrowed k h here));
         transits =
             let sums = total_append (λ d. one_if (is_in_transit h d.name)) l.chunks lent in

@@ -68,4 +68,14 @@ pub mod PoolRules
 pub mod NewView
 pub mod RunningState
 pub mod NewPorts
+pub mod Owners
+pub mod PortCalls
+pub mod Segments
+pub mod Represented
+pub mod ReceiveCode
+pub mod Seen
+pub mod ReceivedCode
+pub mod Lent
+pub mod ReleaseCode
+pub mod Frees
 mod Serving

@@ -1,7 +1,6 @@
 -- What the view has mapped is the ledger's, after an offset has arrived or was given back.
-use Rattle.std.proofs.Common.{ℕ, ◌+◌, ◌-◌, ◌<◌, ◌≡◌, ◌≢◌, Bool, true, false, cond, ◌||◌, nat_eq, nat_lt, [], ◌∷◌, Option, Some, None, is_some, option_map, option_to_list, inl, inr, refl, sym, ap, ◌∙◌, subst, arith}
-use Rattle.std.proofs.lemmas.Bool.{true≢false, false≢true, or_parts, or_right, cases_Bool, eqb-true, eqb-false, ne_eqb, lt-ltb, ltb-false}
-use Rattle.std.proofs.lemmas.Option.{none-some}
+use Rattle.std.proofs.Common.{ℕ, ◌+◌, ◌-◌, ◌≡◌, ◌≢◌, Bool, true, false, cond, ◌||◌, nat_eq, nat_lt, Option, Some, None, is_some, option_map, option_to_list, refl, sym, ap, ◌∙◌, subst, arith}
+use Rattle.std.proofs.lemmas.Bool.{true≢false, or_parts, or_right, eqb-true, eqb-false, ne_eqb, lt-ltb, ltb-false}
 use Rattle.cal_transport.specs.Ledger.{Ledger, is_mapped, has_name}
 use Rattle.cal_transport.specs.Weights.{borrowed_in}
 use Rattle.cal_transport.specs.Shown.{ShowsMapped}
@@ -71,8 +70,7 @@ module _ (l l' : Ledger) (mapped : ℕ → Option ℕ) (segment : ℕ) (b : Borr
       ShowsMapped l' segment (option_map (λ count. count + 1) o)
   one_more None was s = absurd (true≢false (sym was ∙ s))
   one_more (Some count) was s =
-      let more = b.more in
-      (
+      let more = b.more in (
         mapped_told l' segment
             ∙ or_right (is_told l'.opened_last segment) (nat_lt 0 (borrowed_in l' segment))
             (lt-ltb 0 (borrowed_in l' segment) (omega arith)),
@@ -85,8 +83,7 @@ module _ (l l' : Ledger) (mapped : ℕ → Option ℕ) (segment : ℕ) (b : Borr
       let more = b.more in
       let none = zero_or_more (borrowed_in l segment)
       (or_parts (is_told l.opened_last segment) (nat_lt 0 (borrowed_in l segment))
-      (sym (mapped_told l segment) ∙ was)).1 in
-      (
+      (sym (mapped_told l segment) ∙ was)).1 in (
         mapped_told l' segment
             ∙ or_right (is_told l'.opened_last segment) (nat_lt 0 (borrowed_in l' segment))
             (lt-ltb 0 (borrowed_in l' segment) (omega arith)),
@@ -107,7 +104,8 @@ module _ (l l' : Ledger) (mapped : ℕ → Option ℕ) (segment : ℕ) (b : Borr
       is_counted was other apart
       ∙ (or_parts (is_told l.opened_last other) (nat_lt 0 (borrowed_in l other)) (sym (mapped_told l other) ∙ s)).1
   former (Some count) was other apart s =
-      counted_shows l' other count (is_counted was other apart ∙ ap (nat_lt 0) (sym s.1)) (s.1 ∙ sym (b.else other apart))
+      counted_shows l' other count (is_counted was other apart ∙ ap (nat_lt 0) (sym s.1)) (s.1 ∙ sym (b.else other
+      apart))
 
   further : (o : Option ℕ) → is_mapped l segment ≡ false → (other : ℕ) → other ≢ segment →
       is_told l.opened_last other ≡ false → ShowsMapped l other o → ShowsMapped l' other o
@@ -166,8 +164,7 @@ module _ (l l' : Ledger) (mapped : ℕ → Option ℕ) (segment : ℕ) (b : Borr
   stays_opened None told s =
       absurd (true≢false (sym (mapped_told l segment ∙ ap (λ c. c || nat_lt 0 (borrowed_in l segment)) told) ∙ s))
   stays_opened (Some count) told s =
-      let less = b.less in
-      (
+      let less = b.less in (
         mapped_told l' segment ∙ ap (λ o. is_told o segment || nat_lt 0 (borrowed_in l' segment)) b.opened
             ∙ ap (λ c. c || nat_lt 0 (borrowed_in l' segment)) told,
         (let same = s.1 in omega arith),

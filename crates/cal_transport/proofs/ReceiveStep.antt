@@ -1,33 +1,31 @@
 -- A receive is a step.
-use Rattle.std.proofs.Common.{ℕ, ◌+◌, ◌*◌, ◌<◌, ◌≤◌, ◌≡◌, ◌≢◌, Bool, true, false, cond, ◌||◌, nat_le, nat_lt, List, [], ◌∷◌, length, map, drop, set, Option, Some, None, inl, inr, refl, sym, ap, ◌∙◌, subst, arith}
+use Rattle.std.proofs.Common.{ℕ, ◌+◌, ◌*◌, ◌<◌, ◌≤◌, ◌≡◌, ◌≢◌, true, cond, ◌||◌, nat_le, nat_lt, [], map, drop, set, Some, None, inl, refl, sym, ap, ◌∙◌, subst, arith}
 use Rattle.std.specs.List.{slice_get}
-use Rattle.std.proofs.lemmas.Bool.{true≢false, leb-false, le-leb, ne_eqb, eq-eqb}
+use Rattle.std.proofs.lemmas.Bool.{true≢false, le-leb, ne_eqb, eq-eqb}
 use Rattle.std.proofs.lemmas.List.{append-nil, length-set}
-use Rattle.std.proofs.lemmas.Option.{none-some}
 use Rattle.cal_alloc.specs.PointerOffset.{offset_of, segment_of}
 use Rattle.cal_queue.specs.Queue.{after_pop}
 use Rattle.cal_queue.specs.UsedChunks.{contains, capacity_of, after_insertion}
 use Rattle.cal_connection.specs.Channel as channel
 use Rattle.cal_transport.specs.declared.command.Command.TheVariants as command
-use Rattle.cal_transport.specs.declared.reply.Slot.{Slot}
 use Rattle.cal_transport.specs.declared.reply.Reply.{Reply}
 use Rattle.cal_transport.specs.declared.reply.Reply.TheVariants.{Received, Refused}
 use Rattle.cal_transport.specs.declared.reply.Refusal.TheVariants.{OutsideConnection, ReceiveWouldExceedMaxBorrowValue}
-use Rattle.cal_transport.specs.Ledger.{Ledger, Chunk, ChannelHistory, history_on, layout_at, current, is_live, is_in_transit, is_borrowed, borrow_count, queued_names, completed_names, is_mapped}
-use Rattle.cal_transport.specs.Parts.{weight, IsOrderly}
+use Rattle.cal_transport.specs.Ledger.{Ledger, ChannelHistory, history_on, is_live, is_in_transit, borrow_count, queued_names}
+use Rattle.cal_transport.specs.Parts.{IsOrderly}
 use Rattle.cal_transport.specs.Cause.{receive_cause}
 use Rattle.cal_transport.specs.Step.{with_history, history_after_receive, front, slot_named, opened_after_receive, chunk_to_receive, after_command}
-use Rattle.cal_transport.specs.Weights.{lies_in, transits, borrows, one_if, borrowed_in}
+use Rattle.cal_transport.specs.Weights.{transits, borrows, one_if}
 use Rattle.cal_transport.specs.Core.{Core}
 use Rattle.cal_transport.specs.Shown.{Shows, Tracks, ShowsActive, ShowsMapped, ShowsChannel, pointer_named, entry_of}
 use Rattle.cal_transport.specs.Viewing.{opened_after_arrival, mapped_after_arrival}
 use Rattle.cal_transport.proofs.Changing.{le_false, inserted_here, inserted_else}
-use Rattle.cal_transport.proofs.Lists.{same_or_apart, set_there}
+use Rattle.cal_transport.proofs.Lists.{set_there}
 use Rattle.cal_transport.proofs.Names.{is_in_transit-weight, queued-received_from, weight-received_from, borrow_count-received_from, is_borrowed_queued, is_borrowed-received_from, is_borrowed-received_here}
 use Rattle.cal_transport.proofs.Moving.{queued_weighs}
 use Rattle.cal_transport.proofs.Settled.{IsSettled}
-use Rattle.cal_transport.proofs.Changed.{Change, Changes, changed, transit_lives, live_is, lies_there, transits_here, borrows_here, borrowed_in-after, stands_after}
-use Rattle.cal_transport.proofs.Kept.{ShowsAllBytes, KeepsPayloads, all_kept, bytes_kept}
+use Rattle.cal_transport.proofs.Changed.{Change, Changes, changed, transit_lives, live_is, transits_here, borrows_here, borrowed_in-after}
+use Rattle.cal_transport.proofs.Kept.{KeepsPayloads, all_kept, bytes_kept}
 use Rattle.cal_transport.proofs.Channels.{SameChannel, SameTracks, MovesTo, TracksTo}
 use Rattle.cal_transport.proofs.GeneralStep.{StepsTo, shows_after, tracks_after}
 use Rattle.cal_transport.proofs.Fronts.{IsFront, front_of, no_front, named, slot_at, entry_at}
@@ -307,7 +305,8 @@ module _ (p p' : Core) (l : Ledger) (s : IsSettled l) (k : ℕ) (h : ChannelHist
 
 -- the pointer that a channel's queue gives is that of its oldest chunk
 pub queue_front : (p : Core) (l : Ledger) (s : IsSettled l) (k : ℕ) (has : HasHistory l k) (pointer : ℕ) → Shows p l →
-    slice_get (p.channel k).submission.values 0 ≡ Some pointer → IsFront l has.history (queued_names has.history) pointer
+    slice_get (p.channel k).submission.values 0 ≡ Some pointer → IsFront l has.history (queued_names has.history)
+    pointer
 queue_front p l s k has pointer shows first =
     front_of l s k has.history (queued_names has.history) (p.channel k).submission.values pointer has.here
     (shows.channels k has.history has.here).queued first (queued_weighs has.history)

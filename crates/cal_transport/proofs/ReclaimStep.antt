@@ -1,5 +1,5 @@
 -- A reclaim is a step.
-use Rattle.std.proofs.Common.{ℕ, ◌+◌, ◌<◌, ◌≤◌, ◌≡◌, ◌≢◌, true, false, cond, nat_lt, List, [], ◌∷◌, map, drop, Some, None, inl, refl, sym, ap, ◌∙◌, subst, arith}
+use Rattle.std.proofs.Common.{ℕ, ◌<◌, ◌≤◌, ◌≡◌, true, false, cond, nat_lt, List, [], ◌∷◌, map, drop, Some, None, inl, refl, sym, ap, ◌∙◌, subst, arith}
 use Rattle.std.specs.List.{slice_get}
 use Rattle.std.proofs.lemmas.Bool.{true≢false, le-leb, lt-ltb}
 use Rattle.std.proofs.lemmas.List.{append-nil}

@@ -1,5 +1,5 @@
 -- A release is a step.
-use Rattle.std.proofs.Common.{ℕ, ◌+◌, ◌-◌, ◌*◌, ◌<◌, ◌≤◌, ◌≡◌, ◌≢◌, true, false, cond, not, ◌||◌, nat_le, nat_lt, nat_eq, List, [], ◌∷◌, ◌++◌, length, map, set, Some, None, inl, refl, sym, ap, ◌∙◌, subst, arith}
+use Rattle.std.proofs.Common.{ℕ, ◌+◌, ◌-◌, ◌*◌, ◌<◌, ◌≤◌, ◌≡◌, ◌≢◌, true, false, cond, not, ◌||◌, nat_le, nat_lt, [], ◌∷◌, ◌++◌, length, map, set, Some, None, inl, refl, sym, ap, ◌∙◌, subst, arith}
 use Rattle.std.specs.List.{slice_get}
 use Rattle.std.proofs.lemmas.Bool.{true≢false, le-leb, ne_eqb, eq-eqb}
 use Rattle.std.proofs.lemmas.List.{length-set, map-append}
@@ -11,7 +11,7 @@ use Rattle.cal_transport.specs.declared.reply.Reply.{Reply}
 use Rattle.cal_transport.specs.declared.reply.Reply.TheVariants.{Released, Refused}
 use Rattle.cal_transport.specs.declared.reply.Refusal.TheVariants.{OutsideConnection, NotBorrowed, RetrieveBufferFull}
 use Rattle.cal_transport.specs.Settings.{completion_size}
-use Rattle.cal_transport.specs.Ledger.{Ledger, Chunk, ChannelHistory, history_on, is_live, is_in_transit, is_borrowed, borrow_count, queued_names, completed_names}
+use Rattle.cal_transport.specs.Ledger.{Ledger, Chunk, ChannelHistory, history_on, is_live, is_in_transit, is_borrowed, completed_names}
 use Rattle.cal_transport.specs.Parts.{IsOrderly}
 use Rattle.cal_transport.specs.Cause.{release_cause}
 use Rattle.cal_transport.specs.Step.{with_history, history_after_release, after_command}
@@ -30,7 +30,7 @@ use Rattle.cal_transport.proofs.GeneralStep.{StepsTo, shows_after, tracks_after}
 use Rattle.cal_transport.proofs.Fronts.{named, entry_at}
 use Rattle.cal_transport.proofs.Mapped.{BorrowsLess, returned}
 use Rattle.cal_transport.proofs.Marks.{other_mark, mark_below, holds_there}
-use Rattle.cal_transport.proofs.Stands.{HasHistory, has_history, Steps, refused, done}
+use Rattle.cal_transport.proofs.Stands.{Steps, refused, done}
 
 -- a chunk that is borrowed from a channel came back to its completion queue; its offset was given back to the view, and
 -- its bucket isn't lent out there any more

@@ -1,7 +1,7 @@
 -- A send by its answers: refused, queued, or queued in the place of the oldest.
-use Rattle.std.proofs.Common.{ℕ, ◌+◌, ◌-◌, ◌<◌, ◌≤◌, ◌≡◌, ◌≢◌, Bool, true, false, cond, not, ◌&&◌, ◌||◌, nat_le, nat_lt, List, [], ◌∷◌, ◌++◌, length, map, drop, set, Option, Some, None, option_to_list, inl, refl, sym, ap, ◌∙◌, subst, arith, set-set}
+use Rattle.std.proofs.Common.{ℕ, ◌-◌, ◌<◌, ◌≡◌, ◌≢◌, true, false, cond, not, ◌&&◌, ◌||◌, nat_le, nat_lt, List, [], ◌∷◌, ◌++◌, length, map, drop, set, Option, Some, None, inl, refl, sym, ap, ◌∙◌, arith, set-set}
 use Rattle.std.specs.List.{slice_get}
-use Rattle.std.proofs.lemmas.Bool.{true≢false, le-leb, lt-ltb, or_left, or_right}
+use Rattle.std.proofs.lemmas.Bool.{true≢false}
 use Rattle.std.proofs.lemmas.List.{append-nil}
 use Rattle.std.proofs.lemmas.Option.{same_Some}
 use Rattle.cal_alloc.specs.PointerOffset.{offset_of, segment_of}
@@ -9,14 +9,13 @@ use Rattle.cal_connection.specs.Channel as channel
 use Rattle.cal_transport.specs.declared.command.Command.TheVariants as command
 use Rattle.cal_transport.specs.declared.reply.Reply.{Reply}
 use Rattle.cal_transport.specs.declared.reply.Reply.TheVariants.{Sent, Refused}
-use Rattle.cal_transport.specs.declared.reply.Refusal.{Refusal}
 use Rattle.cal_transport.specs.declared.reply.Refusal.TheVariants as refusal
-use Rattle.cal_transport.specs.Ledger.{Ledger, Chunk, ChannelHistory, Departure, ByOverflow, history_on, occurrences, is_live, is_in_transit, is_borrowed, borrow_count, queued_names, completed_names, loaned_chunk}
+use Rattle.cal_transport.specs.Ledger.{Ledger, Chunk, ChannelHistory, Departure, ByOverflow, history_on, occurrences, is_in_transit, queued_names, loaned_chunk}
 use Rattle.cal_transport.specs.Parts.{weight, IsOrderly}
 use Rattle.cal_transport.specs.Cause.{cause, send_cause, is_channel_outside, is_bucket_outside, is_buffer_full}
 use Rattle.cal_transport.specs.Step.{with_history, with_chunk, history_after_send, name_sent_back, front, slot_named, after_command}
 use Rattle.cal_transport.specs.Core.{Core}
-use Rattle.cal_transport.specs.Shown.{Shows, Tracks, ShowsChannel, pointer_to, pointer_named}
+use Rattle.cal_transport.specs.Shown.{Shows, Tracks, pointer_named}
 use Rattle.cal_transport.proofs.Changing.{le_false}
 use Rattle.cal_transport.proofs.Histories.{history_after_overflow, queued-overflowed, received-overflowed, weight-overflowed}
 use Rattle.cal_transport.proofs.Lists.{set_there, slice_get-set_same, slice_get-set_else}

@@ -1,16 +1,14 @@
 -- A send is a step: the chunk joins the queue, and where that was full the oldest leaves it. The second is a leaving
 -- from the ledger that the first would lead to.
-use Rattle.std.proofs.Common.{ℕ, suc, ◌+◌, ◌*◌, ◌<◌, ◌≤◌, ◌≡◌, ◌≢◌, Bool, true, false, cond, not, ◌&&◌, ◌||◌, nat_eq, nat_le, nat_lt, List, [], ◌∷◌, ◌++◌, length, map, drop, set, Option, Some, None, inl, inr, refl, sym, ap, ◌∙◌, subst, arith}
+use Rattle.std.proofs.Common.{ℕ, ◌+◌, ◌*◌, ◌<◌, ◌≡◌, ◌≢◌, true, false, ◌&&◌, ◌||◌, nat_eq, nat_lt, List, [], ◌∷◌, ◌++◌, length, map, set, Some, None, inr, refl, sym, ap, ◌∙◌, subst, arith}
 use Rattle.std.specs.List.{slice_get}
-use Rattle.std.proofs.lemmas.Bool.{true≢false, le-leb, ltb-false, lt-ltb}
+use Rattle.std.proofs.lemmas.Bool.{ltb-false, lt-ltb}
 use Rattle.std.proofs.lemmas.List.{append-nil, map-append}
-use Rattle.cal_alloc.specs.PointerOffset.{offset_of, segment_of}
 use Rattle.cal_queue.specs.UsedChunks.{contains}
 use Rattle.cal_connection.specs.declared.segment_details.SegmentDetails.{SegmentDetails}
 use Rattle.cal_connection.specs.Channel as channel
-use Rattle.cal_transport.specs.Ledger.{Ledger, Chunk, ChannelHistory, layout_at, is_live, is_in_transit, is_borrowed, borrow_count, queued_names, completed_names}
+use Rattle.cal_transport.specs.Ledger.{Ledger, Chunk, ChannelHistory, layout_at, is_live, is_in_transit, borrow_count, queued_names}
 use Rattle.cal_transport.specs.Parts.{weight, IsOrderly}
-use Rattle.cal_transport.specs.Soundness.{IsSentChunk}
 use Rattle.cal_transport.specs.Step.{history_after_send}
 use Rattle.cal_transport.specs.Weights.{transits, borrows, one_if}
 use Rattle.cal_transport.specs.Core.{Core}
@@ -20,7 +18,7 @@ use Rattle.cal_transport.proofs.Settled.{IsSettled}
 use Rattle.cal_transport.proofs.Changed.{Change, Changes, changed, live_is, transits_here, borrows_here, stands_after}
 use Rattle.cal_transport.proofs.Kept.{KeepsPayloads, all_kept, bytes_kept, mapped_kept}
 use Rattle.cal_transport.proofs.Channels.{SameChannel, SameTracks, MovesTo, TracksTo}
-use Rattle.cal_transport.proofs.GeneralStep.{StepsTo, shows_after, tracks_after, StaysSettled, settled_after}
+use Rattle.cal_transport.proofs.GeneralStep.{StepsTo, shows_after, tracks_after, settled_after}
 use Rattle.cal_transport.proofs.Fronts.{named}
 use Rattle.cal_transport.proofs.Marks.{own_borrowed}
 

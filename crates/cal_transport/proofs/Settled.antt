@@ -1,7 +1,6 @@
 -- What the commands ask of a ledger, which also a ledger has from which a chunk is about to leave by overflow.
-use Rattle.std.proofs.Common.{ℕ, ◌<◌, ◌≡◌, ◌≢◌, true, length, Some, inl, inr, arith}
+use Rattle.std.proofs.Common.{ℕ, ◌<◌, ◌≡◌, ◌≢◌, true, length, Some}
 use Rattle.std.specs.List.{slice_get}
-use Rattle.std.proofs.lemmas.Bool.{cases_lt}
 use Rattle.cal_transport.specs.Ledger.{Ledger, Chunk, ChannelHistory, is_live}
 use Rattle.cal_transport.specs.Parts.{weight, IsOrderly}
 use Rattle.cal_transport.specs.Soundness.{HasRoom, HasSoundSegments, LiesWithin, ShareBucket, IsSentChunk, IsSoundLedger}

@@ -1,6 +1,6 @@
 -- What is shared by the commands: a channel that is there, refused commands, and steps over every ledger that the parts
 -- show.
-use Rattle.std.proofs.Common.{ℕ, ◌+◌, ◌*◌, ◌<◌, ◌≡◌, length, Option, Some, None, refl, sym, ap, ◌∙◌, subst, arith}
+use Rattle.std.proofs.Common.{ℕ, ◌+◌, ◌*◌, ◌<◌, ◌≡◌, length, Some, None, refl, sym, ap, ◌∙◌, subst, arith}
 use Rattle.std.specs.List.{slice_get}
 use Rattle.std.proofs.lemmas.Option.{slice_get-get_or}
 use Rattle.cal_queue.specs.UsedChunks.{contains, capacity_of}
@@ -51,7 +51,8 @@ pub done : (p' : Core) (l l' : Ledger) (place : ℕ) (asked : Command) (reply : 
 done p' l l' place asked reply none owes made shows tracks = record {
   step = subst (λ o. IsStepBy o l place asked reply) (sym none) owes;
   shows = subst (λ o. Shows p' (after_step_by o l place asked reply)) (sym none) (subst (Shows p') (sym made) shows);
-  tracks = subst (λ o. Tracks p' (after_step_by o l place asked reply)) (sym none) (subst (Tracks p') (sym made) tracks);
+  tracks = subst (λ o. Tracks p' (after_step_by o l place asked reply)) (sym none) (subst (Tracks p') (sym made)
+      tracks);
 }
 
 -- ---- parts that are seen alike

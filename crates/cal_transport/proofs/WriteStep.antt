@@ -1,32 +1,29 @@
 -- A write is a step: the bytes of one bucket change, and those of no other.
-use Rattle.std.proofs.Common.{ℕ, ◌+◌, ◌*◌, ◌<◌, ◌≤◌, ◌≡◌, ◌≢◌, Bool, true, false, cond, ◌||◌, nat_lt, List, [], ◌++◌, length, take, drop, map, set, Option, Some, None, inl, inr, refl, sym, ap, ◌∙◌, subst, arith, mul_comm, mul-le-mul_left, take-append-drop}
+use Rattle.std.proofs.Common.{ℕ, ◌+◌, ◌*◌, ◌<◌, ◌≤◌, ◌≡◌, ◌≢◌, true, false, cond, ◌||◌, nat_lt, List, [], ◌++◌, length, take, drop, set, Some, None, inl, inr, refl, sym, ap, ◌∙◌, subst, arith, mul-le-mul_left, take-append-drop}
 use Rattle.std.specs.List.{slice_get}
 use Rattle.std.proofs.lemmas.Bool.{lt-ltb}
 use Rattle.std.proofs.lemmas.List.{append-nil}
 use Rattle.std.proofs.lemmas.Bool.Decides.{nat_tests}
-use Rattle.std.proofs.lemmas.Option.{same_Some, none-some}
+use Rattle.std.proofs.lemmas.Option.{same_Some}
 use Rattle.cal_transport.specs.declared.command.Command.TheVariants as command
 use Rattle.cal_transport.specs.declared.reply.Reply.{Reply}
 use Rattle.cal_transport.specs.declared.reply.Reply.TheVariants.{Written, Refused}
-use Rattle.cal_transport.specs.declared.reply.Refusal.{Refusal}
 use Rattle.cal_transport.specs.declared.reply.Refusal.TheVariants as refusal
-use Rattle.cal_transport.specs.Settings.{payload}
 use Rattle.cal_transport.specs.Ledger.{Ledger, Chunk, ChannelHistory, layout_at, loaned_chunk, is_live}
 use Rattle.cal_transport.specs.Cause.{write_cause, exceeds_bucket}
-use Rattle.cal_transport.specs.Step.{with_bytes, with_changed_chunk, after_command}
-use Rattle.cal_transport.specs.Soundness.{ShareBucket}
+use Rattle.cal_transport.specs.Step.{with_bytes, after_command}
 use Rattle.cal_transport.specs.Weights.{transits}
 use Rattle.cal_transport.specs.Core.{Core, ActiveSegment}
-use Rattle.cal_transport.specs.Shown.{Shows, Tracks, ShowsSegment, ShowsActive, ShowsBytes, ShowsMapped, entry_of, bytes_at}
+use Rattle.cal_transport.specs.Shown.{Shows, Tracks, ShowsActive, ShowsBytes, ShowsMapped, entry_of, bytes_at}
 use Rattle.cal_transport.proofs.Lists.{same_or_apart, set_there}
 use Rattle.cal_transport.proofs.Steps.{changed_chunk-at}
 use Rattle.cal_transport.proofs.Settled.{IsSettled}
 use Rattle.cal_transport.proofs.Writes.{length-overwritten, bytes_outside, bytes_inside, buckets_disjoint}
 use Rattle.cal_transport.proofs.Changed.{Change, Changes, changed, live_is, live_else, stood, stands_after}
 use Rattle.cal_transport.proofs.Kept.{ShowsAllBytes, all_kept, mapped_kept}
-use Rattle.cal_transport.proofs.Channels.{SameChannel, SameTracks, MovesTo, TracksTo}
+use Rattle.cal_transport.proofs.Channels.{SameChannel, SameTracks}
 use Rattle.cal_transport.proofs.GeneralStep.{StepsTo, shows_after, tracks_after}
-use Rattle.cal_transport.proofs.Fronts.{HasSegment, has_segment, sizes_of, entry_at}
+use Rattle.cal_transport.proofs.Fronts.{HasSegment, has_segment, entry_at}
 use Rattle.cal_transport.proofs.Kept.{live_active}
 use Rattle.cal_transport.proofs.DiscardStep.{Keeps, StandsAt, standing, standing_changes, standing_moves, standing_tracks, same_transits, same_borrows}
 use Rattle.cal_transport.proofs.Stands.{Steps, refused, done}
@@ -156,13 +153,15 @@ module _ (p p' : Core) (l : Ledger) (s : IsSettled l) (h : ChannelHistory) (here
     | inl same ↦ subst (λ n. ShowsActive end n (p'.active n)) (sym same)
         (subst (ShowsActive end chunk.segment) (sym has_is)
         (let before = all_kept l x c same_live chunk.segment (Some had.shown)
-        (subst (ShowsActive l chunk.segment) had.has (shows.active chunk.segment)) in
-        (before.0, record {
-          layout = before.1.layout;
-          used = before.1.used;
-          chunks = before.1.chunks;
-          payload = (let fits = before.1.payload in let e = kept_long in omega arith);
-        })))
+        (subst (ShowsActive l chunk.segment) had.has (shows.active chunk.segment)) in (
+          before.0,
+          record {
+            layout = before.1.layout;
+            used = before.1.used;
+            chunks = before.1.chunks;
+            payload = (let fits = before.1.payload in let e = kept_long in omega arith);
+          },
+        )))
     | inr apart ↦ subst (ShowsActive end segment) (sym (r.others segment apart))
         (all_kept l x c same_live segment (p.active segment) (shows.active segment))
   ]

@@ -27,7 +27,9 @@ pub mod Core
 pub mod Shown
 pub mod Viewing
 pub mod State
+pub mod StateOf
 pub mod Sharing
+pub mod Pointed
 pub mod CommandsDo
 pub mod StateOf
 pub mod Opening

@@ -1,14 +1,13 @@
 -- What the calls on memory and view do to a transport's view, and to the segments of its memory.
-use Rattle.std.specs.Prelude.{◌≡◌, ◌≢◌, ℕ, ◌-◌, ◌+◌, Bool, ◌==◌, List, if◌then◌else◌}
+use Rattle.std.specs.Prelude.{◌≡◌, ◌≢◌, ℕ, Bool, ◌==◌, if◌then◌else◌}
 use Rattle.cal_alloc.specs.Pool.{Pool}
 use Rattle.cal_storage.specs.Contents.{Contents}
 use Rattle.cal_shm.specs.Segment.{Segment}
 use Rattle.cal_resizable.specs.Chunks.{segment_value}
 use Rattle.cal_resizable.specs.Memory.{MemoryState}
-use Rattle.cal_resizable.specs.Slots.{Slots}
 use Rattle.cal_resizable.specs.Together.{AreTogether}
 use Rattle.cal_resizable.specs.View.{View}
-use Rattle.cal_transport.specs.Core.{ActiveSegment, given_back}
+use Rattle.cal_transport.specs.Core.{given_back}
 use Rattle.cal_transport.specs.State.{active_at, mapped_at}
 use Rattle.cal_transport.specs.Viewing.{opened_after_arrival, mapped_after_arrival, mapped_after_return}
 

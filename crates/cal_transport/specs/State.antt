@@ -1,5 +1,5 @@
 -- What a transport is made of, and what its parts are seen as.
-use Rattle.std.specs.Prelude.{◌≡◌, ℕ, ◌+◌, ◌-◌, ◌≤◌, List, [], length, map, Option, Some, None, option_map, slice_index_or, vec_items, vec_len, vec_capacity}
+use Rattle.std.specs.Prelude.{◌≡◌, ℕ, ◌+◌, ◌*◌, ◌^◌, ◌<◌, ◌≤◌, List, [], length, Option, Some, None, option_map, slice_index_or}
 use Rattle.cal_alloc.specs.Pool.{Pool}
 use Rattle.cal_queue.specs.UsedChunks.{UsedChunks, none_used}
 use Rattle.cal_storage.specs.declared.handle.Handle.{Handle}
@@ -90,6 +90,7 @@ pub record IsLinked (t : TransportState) : Type 0 where
   pub transits : length t.transits ≡ t.settings.channels
   pub owners : length t.owners ≡ t.memory.current + 1
   pub tables : 256 ≤ length t.owners + t.spare_tables
+  pub marks : t.settings.segments * t.settings.samples < 2 ^ 63
 
 -- ---- the ledger
 

@@ -1,5 +1,5 @@
 -- What a view has mapped after an offset arrives or is given back, by the numbers of segments.
-use Rattle.std.specs.Prelude.{ℕ, ◌+◌, ◌-◌, Bool, true, not, ◌&&◌, ◌==◌, nat_lt, Option, Some, None, is_some, option_map, if◌then◌else◌}
+use Rattle.std.specs.Prelude.{ℕ, ◌+◌, ◌-◌, Bool, true, not, ◌==◌, nat_lt, Option, Some, None, is_some, option_map, if◌then◌else◌}
 
 -- a number is the one that is told, if one is
 abbrev pub is_told : Option ℕ → ℕ → Bool

@@ -1,6 +1,6 @@
 //! What a transport keeps of each chunk that was ever loaned, in the order of their names.
 
-ghost use Rattle.std.specs.Prelude.{◌≡◌, slice_get, Some, MatchOption};
+ghost use Rattle.std.specs.Prelude.{◌≡◌, slice_get, Some, IsSome, MatchOption};
 ghost use Rattle.cal_transport.specs.ChunkEntry.{AreRising, HasNoEntry, IsFound, LeadsToEntry, owners_of};
 
 /// What is kept of a chunk. Its name is the number of the loan that made it, so names rise.
@@ -47,6 +47,14 @@ pub(crate) fn find_entry(entries: &[ChunkEntry], name: usize) -> Option<Found>
     }
 }
 
+/// The index of the entry of the chunk that has a bucket of a segment.
+fn owner_of(owners: &[Owners], segment: u8, bucket: usize) -> usize
+    requires owned { IsSome (slice_get (owners_of owners.now segment) bucket) }
+    ensures owner { slice_get (owners_of owners.now segment) bucket ≡ Some result }
+{
+    owners[segment as usize][bucket]
+}
+
 /// The entry of the chunk that has a bucket of a segment.
 pub(crate) fn entry_at(
     entries: &[ChunkEntry],
@@ -58,7 +66,7 @@ pub(crate) fn entry_at(
     ensures owner { slice_get (owners_of owners.now segment) bucket ≡ Some result.index }
     ensures entry { slice_get entries.now result.index ≡ Some result.entry }
 {
-    let index = owners[segment as usize][bucket];
+    let index = owner_of(owners, segment, bucket);
     Found {
         index,
         entry: entries[index],

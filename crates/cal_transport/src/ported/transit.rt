@@ -1,0 +1,59 @@
+//! The chunks that are in transit.
+
+use crate::ported::chunk_entry::entry_at;
+use crate::ported::transport::Transport;
+use crate::replies::Replies;
+use crate::reply::{Reply, Slot};
+use cal_alloc::SegmentId;
+use cal_connection::ChannelId;
+
+impl Transport {
+    /// How many chunks are in transit, each counted once for each channel.
+    pub fn in_transit(&self) -> usize {
+        self.in_transit
+    }
+
+    /// Appends a reply for each chunk in transit, by channel, segment and place. It looks at the used lists of the
+    /// channels on which something is in transit.
+    pub fn transit(&self, into: &mut Replies<Reply>) {
+        if self.in_transit == 0 {
+            return;
+        }
+        for channel in 0..self.settings.channels {
+            if self.transits[channel] > 0 {
+                self.channel_transit(channel, into);
+            }
+        }
+    }
+
+    /// Appends a reply for each chunk in transit on a channel, by segment and place.
+    fn channel_transit(&self, channel: usize, into: &mut Replies<Reply>) {
+        let segments = self.owners.len().min(self.settings.segments as usize);
+        for segment in 0..segments {
+            self.segment_transit(channel, SegmentId::new(segment as u8), into);
+        }
+    }
+
+    /// Appends a reply for each chunk of a segment that is in transit on a channel, by place. It goes from one used
+    /// bucket to the next, by the words of the list.
+    fn segment_transit(&self, channel: usize, segment: SegmentId, into: &mut Replies<Reply>) {
+        let channel_id = ChannelId::new(channel);
+        let mut from = 0;
+        while let Some(bucket) = self
+            .sender
+            .next_used(&self.connection_registry, channel_id, segment, from)
+        {
+            let size = self.memory.bucket_size(&self.memory_registry, segment);
+            let found = entry_at(&self.entries, &self.owners, segment.value(), bucket);
+            into.push(Reply::Transit {
+                channel,
+                slot: Slot {
+                    chunk: found.entry.name,
+                    segment: segment.value(),
+                    place: bucket * size,
+                },
+            });
+            from = bucket + 1;
+        }
+    }
+}
