@@ -1,22 +1,26 @@
 //! Measures the rings: `cal_bench one COUNT` pushes and pops that many values of a submission ring on one thread,
 //! `cal_bench two COUNT` sends them from one thread to another with overflow, and `cal_bench completion COUNT` puts
 //! them into a completion ring and gets them out on one thread. `cal_bench pool COUNT`, `queue` and `used` measure the
-//! plain containers: a chunk got and freed, a value pushed and popped, a number put in and taken out. Each prints the
+//! plain containers: a chunk got and freed, a value pushed and popped, a number put in and taken out. `channel` and
+//! `channels` make that many calls of both ports of a connection with one channel, and with 1,024. Each prints the
 //! nanoseconds that it took.
 #![tactic(auto)]
 
 mod one_thread;
 mod plain_calls;
+mod port_calls;
 mod two_threads;
 
 use crate::plain_calls::container_of;
+use crate::port_calls::{channels_of, measure};
 use anyhow::Result;
 use cal_queue::submission_ring::RingRest;
 use std::env;
 use std::rt::Env;
 use std::time::Instant;
 
-const USAGE: &str = "usage: cal_bench (one | two | completion | pool | queue | used) COUNT";
+const USAGE: &str =
+    "usage: cal_bench (one | two | completion | pool | queue | used | channel | channels) COUNT";
 
 /// Which measurement, and of how many values.
 #[derive(Clone, Copy)]
@@ -55,6 +59,11 @@ fn main(rt: HostRuntime) -> Result<()> {
         let done = container.call(rt.alloc(), count)?;
         let nanoseconds = start.elapsed(&rt)?.as_nanos();
         println!(rt; "{count} calls in {nanoseconds} ns: {done} done")?;
+        return Ok(());
+    }
+    if let Some((channels, count)) = channels_of(words.as_slice()) {
+        let (nanoseconds, suited) = measure(&rt, channels, count)?;
+        println!(rt; "{count} calls in {nanoseconds} ns: {suited} done")?;
         return Ok(());
     }
     let Some(plan) = plan_of(words.as_slice()) else {

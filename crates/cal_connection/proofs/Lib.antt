@@ -1,6 +1,12 @@
+pub mod AllMade
+pub mod BothEnds
 pub mod Changed
 pub mod Closed
+pub mod Made
 pub mod OneSample
+pub mod OwnCalls
 pub mod Owed
+pub mod PairsBalance
 pub mod Removed
+pub mod Suited
 pub mod Written

@@ -1,11 +1,15 @@
+pub mod AcquirableLemmas
 pub mod Acquisition
 pub mod Backpressure
 pub mod BackpressureLemmas
+pub mod CallExamples
+pub mod Calls
 pub mod Channel
 pub mod Closing
 pub mod Configuration
 pub mod Creation
 pub mod Ends
+pub mod JoinedLemmas
 pub mod Plan
 pub mod Port
 pub mod PortLemmas
@@ -16,5 +20,7 @@ pub mod Traffic
 pub mod TrafficLemmas
 pub mod Unmarked
 pub mod UnmarkedLemmas
+pub mod UsedPairLemmas
+pub mod UsedPairs
 pub mod Words
 pub mod Examples

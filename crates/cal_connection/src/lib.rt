@@ -3,9 +3,13 @@
 #![tactic(auto)]
 
 mod acquisition;
+pub mod acquisition_laws;
 mod backpressure;
 mod blocking;
 mod builder;
+pub mod call_examples;
+pub mod call_laws;
+mod calls;
 mod channel;
 pub mod channel_id;
 pub mod channel_state;
@@ -17,7 +21,9 @@ pub mod errors;
 pub mod examples;
 pub mod laws;
 mod options;
+mod port_call;
 mod port_details;
+mod port_reply;
 mod receiver;
 mod segment_details;
 mod sender;
@@ -31,6 +37,7 @@ pub use builder::{
     DEFAULT_MAX_BORROWED_SAMPLES_PER_CHANNEL, DEFAULT_MAX_SUPPORTED_SHARED_MEMORY_SEGMENTS,
     DEFAULT_NUMBER_OF_CHANNELS, DEFAULT_NUMBER_OF_SAMPLES_PER_SEGMENT,
 };
+pub use calls::run_calls;
 pub use channel::Channel;
 pub use channel_id::ChannelId;
 pub use channel_state::{
@@ -45,7 +52,9 @@ pub use errors::{
     ZeroCopyReleaseError, ZeroCopySendError,
 };
 pub use options::ConnectionOptions;
+pub use port_call::PortCall;
 pub use port_details::ZeroCopyPortDetails;
+pub use port_reply::PortReply;
 pub use receiver::{Receiver, ZeroCopyReceiver};
 pub use segment_details::SegmentDetails;
 pub use sender::{Sender, ZeroCopySender};

@@ -1,5 +1,5 @@
 -- What is known of a memory that was created over a new registry, and of a view that opens it.
-use Rattle.std.proofs.Common.{◌≡◌, ◌≢◌, ℕ, ◌+◌, ◌<◌, ◌≤◌, ◌==◌, Bool, true, false, nat_lt, if◌then◌else◌, Option, Some, None, is_some, IsSomeAnd, List, ◌++◌, codes, length, option_map, refl, sym, ap, ◌∙◌, subst, arith}
+use Rattle.std.proofs.Common.{◌≡◌, ◌≢◌, ℕ, ◌<◌, Bool, false, nat_lt, if◌then◌else◌, Some, None, is_some, IsSomeAnd, List, ◌++◌, codes, length, option_map, refl, sym, ap, ◌∙◌, subst, arith}
 use Rattle.std.specs.Option.{option_and_then, option_or}
 use Rattle.std.proofs.lemmas.Bool.Decides.{nat_tests}
 use Rattle.std.proofs.lemmas.Option.{none-some, same_Some}
@@ -8,7 +8,7 @@ use Rattle.cal_names.specs.ConceptSettings.{ConceptSettings, file_path_for}
 use Rattle.cal_names.specs.FileName.{IsFileName, as_file_name_yes}
 use Rattle.cal_storage.specs.declared.dynamic_storage.errors.DynamicStorageOpenError.TheVariants as storage
 use Rattle.cal_storage.specs.declared.entry.Entry.{Entry}
-use Rattle.cal_storage.specs.Contents.{Contents, Has, id_at, entry_of, entry_at, nothing_registered, found_handle, after_creation, after_opening}
+use Rattle.cal_storage.specs.Contents.{Contents, Has, id_at, entry_of, entry_at, nothing_registered, found_handle, after_opening}
 use Rattle.cal_storage.specs.HandleLemmas.{has_entry}
 use Rattle.cal_storage.specs.NameLemmas.{is_path-apart}
 use Rattle.cal_storage.specs.Refusals.{finished_version, is_too_long, entry_refusal}
@@ -16,17 +16,16 @@ use Rattle.cal_storage.specs.SoundnessLemmas.{id_at-after_creation-other}
 use Rattle.cal_shm.specs.Plan.{SegmentPlan, path_of}
 use Rattle.cal_shm.specs.Refusals.{opening_error, size_refusal, open_refusal}
 use Rattle.cal_shm.specs.Segment.{Segment}
-use Rattle.cal_shm.specs.declared.errors.SharedMemoryOpenError.{SharedMemoryOpenError}
 use Rattle.cal_shm.specs.declared.errors.SharedMemoryOpenError.TheVariants as open_error
-use Rattle.cal_resizable.specs.Creation.{MemoryPlan, MakesMemory, CreatesMemory, managed_contents, first_contents}
+use Rattle.cal_resizable.specs.Creation.{MemoryPlan, CreatesMemory, managed_contents}
 use Rattle.cal_resizable.specs.Growth.{made_segment}
 use Rattle.cal_resizable.specs.Memory.{MemoryState, IsSoundMemory}
 use Rattle.cal_resizable.specs.Memory as memory_paths
 use Rattle.cal_resizable.specs.SegmentNameLemmas.{number_end-injective, segment_of_name-again, segment_of_name-management}
-use Rattle.cal_resizable.specs.SegmentNames.{number_end, segment_of_name, management_segment_name}
+use Rattle.cal_resizable.specs.SegmentNames.{number_end, segment_of_name}
 use Rattle.cal_resizable.specs.Slots.{Handle, HeldSegment, segment_at, LeavesHandle}
 use Rattle.cal_resizable.specs.Together.{AllFinished, NoneLater, IsAlone, AreTogether}
-use Rattle.cal_resizable.specs.View.{View, ViewPlan, IsView, management_name, management_plan, new_view, opening_refusal}
+use Rattle.cal_resizable.specs.View.{View, ViewPlan, management_name, management_plan, new_view, opening_refusal}
 use Rattle.cal_resizable.proofs.FinishedLemmas.{AllFinished-after_creation, AllFinished-after_opening}
 use Rattle.cal_resizable.proofs.SlotLemmas.{segment_at-empty}
 use Rattle.cal_resizable.proofs.ViewLawLemmas.{entry-sound}
@@ -170,13 +169,15 @@ module _ {A : Type 0} (contents : Contents (Segment A)) (memory : MemoryState) (
             let left_found = leaves (found_handle (path_of (management_plan plan)) id) in
             record {
               memory_sound = alone.sound;
-              view_sound = new-IsView plan.name plan.settings view.management view.slots rule managed_rule managed_fits refl
+              view_sound = new-IsView plan.name plan.settings view.management view.slots rule managed_rule managed_fits
+                  refl
                   refl;
               name = name;
               settings = settings;
               has_memory = record {
                 of_management = left_management.has has.of_management;
-                of_segments = λ number held at. let left = leaves held.handle in left.has (has.of_segments number held at);
+                of_segments = λ number held at. let left = leaves held.handle in
+                    left.has (has.of_segments number held at);
               };
               has_view = new-HasView opened view plan id view.management refl refl (left_found.has has_found);
               holds = record {

@@ -1,11 +1,11 @@
 -- That closing the segments one by one closes all of them.
-use Rattle.std.specs.Prelude.{◌≡◌, ◌≢◌, ℕ, ◌+◌, ◌<◌, ◌≤◌, ◌^◌, zero, suc, Option, Some, None, IsSomeAnd, List, [], ◌∷◌, length}
+use Rattle.std.specs.Prelude.{◌≡◌, ◌≢◌, ℕ, ◌+◌, ◌<◌, ◌≤◌, zero, suc, Option, Some, None, IsSomeAnd, List, [], ◌∷◌, length}
 use Rattle.std.proofs.Common.{arith, refl, sym, ap, ◌∙◌, subst, inl, inr}
 use Rattle.std.proofs.lemmas.Bool.{cases_eq}
 use Rattle.std.proofs.lemmas.Option.{none-some, same_Some}
 use Rattle.cal_storage.specs.declared.entry.Entry.{Entry}
 use Rattle.cal_storage.specs.Contents.{Contents, Has, entry_of, after_close}
-use Rattle.cal_storage.specs.Holding.{Holds, KeepsOtherHandles}
+use Rattle.cal_storage.specs.Holding.{KeepsOtherHandles}
 use Rattle.cal_storage.specs.HoldingLemmas.{Holds-weaker, KeepsOtherHandles-after_close, LeavesSharers-after_close}
 use Rattle.cal_storage.specs.Soundness.{IsSound}
 use Rattle.cal_storage.specs.SoundnessLemmas.{after_close-IsSound}

@@ -1,5 +1,5 @@
 -- That each entry of a registry stays finished, and that what a path of a later segment stands for stays nothing.
-use Rattle.std.proofs.Common.{◌≡◌, ◌≢◌, ℕ, ◌+◌, ◌==◌, Bool, true, false, not, ◌&&◌, if◌then◌else◌, Option, Some, None, List, [], ◌∷◌, length, option_map, refl, sym, ap, ◌∙◌, subst, inl, inr}
+use Rattle.std.proofs.Common.{◌≡◌, ℕ, ◌==◌, Bool, true, false, not, ◌&&◌, if◌then◌else◌, Option, Some, None, List, [], ◌∷◌, length, option_map, refl, sym, ap, ◌∙◌, inl, inr}
 use Rattle.std.specs.Map.{lookup, remove_entry}
 use Rattle.std.proofs.lemmas.Bool.{cases_eq}
 use Rattle.std.proofs.lemmas.Option.{none-some, same_Some}
@@ -7,7 +7,7 @@ use Rattle.cal_storage.specs.declared.entry.Entry.{Entry}
 use Rattle.cal_storage.specs.declared.entry.Slot.{Slot}
 use Rattle.cal_storage.specs.declared.entry.Slot.TheVariants.{Ended, Kept}
 use Rattle.cal_storage.specs.Contents.{Contents, is_path, is_named, entry_in, slot_with_holder_less, slot_if_used, one_less, id_at, slot_of, entry_of, value_of, with_slot, without_name, without_own_name, after_creation, after_opening, after_close, with_value}
-use Rattle.cal_storage.specs.ContentsLaws.{MakesEntry, ChangesEntry, LeavesOthers, one_holder_more}
+use Rattle.cal_storage.specs.ContentsLaws.{ChangesEntry, one_holder_more}
 use Rattle.cal_storage.specs.EntryLemmas.{after_creation-MakesEntry, after_creation-LeavesOthers, after_opening-ChangesEntry, with_value-ChangesEntry}
 use Rattle.cal_storage.specs.Refusals.{finished_version}
 use Rattle.cal_storage.specs.SoundnessLemmas.{entry_of-with_slot-same}

@@ -1,5 +1,5 @@
 -- When a pool is full.
-use Rattle.std.proofs.Common.{◌≡◌, ◌<◌, ◌≤◌, ℕ, Bool, true, false, cond, if◌then◌else◌, nat_lt, nat_eq, Option, Some, None, is_some, eq-eqb, ne_eqb, List, [], ◌∷◌, length, count_by, refl, sym, ap, ◌∙◌, inl, inr, arith}
+use Rattle.std.proofs.Common.{◌≡◌, ◌≤◌, ℕ, Bool, true, false, cond, if◌then◌else◌, nat_lt, nat_eq, Some, None, is_some, eq-eqb, ne_eqb, List, [], ◌∷◌, length, count_by, refl, sym, ap, ◌∙◌, inl, inr, arith}
 use Rattle.std.specs.List.{list_all}
 use Rattle.std.proofs.lemmas.Bool.{false≢true, cases_Bool, cases_eq}
 use Rattle.std.proofs.lemmas.Bool.Decides.{nat_tests}
@@ -37,7 +37,8 @@ not-above most n le = grind (arith, nat_tests)
 pub refused-full : (pool : Pool) (layout : SizeAndAlignment) (used count : ℕ) → IsSoundPool pool →
     layout.alignment ≤ pool.buckets.alignment → layout.size ≤ pool.buckets.size → used ≡ number_of_used pool →
     count ≡ pool.buckets.count → nat_eq used count ≡ is_some (pool_refusal pool layout)
-refused-full pool layout used count sound aligned fits used_is count_is = by_full ∙ sym (by_size ∙ only_full (is_full pool))
+refused-full pool layout used count sound aligned fits used_is count_is = by_full
+    ∙ sym (by_size ∙ only_full (is_full pool))
   where
     only_full : (full : Bool) → is_some (if full then Some OutOfMemory else None) ≡ full
     only_full true = refl
@@ -47,7 +48,8 @@ refused-full pool layout used count sound aligned fits used_is count_is = by_ful
     by_size =
         ap (λ t. is_some (if t then Some ExceedsMaxSupportedAlignment
         else if nat_lt pool.buckets.size layout.size then Some SizeTooLarge
-        else if is_full pool then Some OutOfMemory else None)) (not-above pool.buckets.alignment layout.alignment aligned)
+        else if is_full pool then Some OutOfMemory else None)) (not-above pool.buckets.alignment layout.alignment
+        aligned)
         ∙ ap (λ t. is_some (if t then Some SizeTooLarge else if is_full pool then Some OutOfMemory else None))
         (not-above pool.buckets.size layout.size fits)
 

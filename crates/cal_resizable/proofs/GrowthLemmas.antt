@@ -59,7 +59,8 @@ module _ (memory : MemoryState) (sound : IsSoundMemory memory) where
   -- no segment has the next number
   pub next_empty : (slots : Slots) → slots ≡ without_unused memory.slots memory.current →
       segment_at slots (memory.current + 1) ≡ None
-  next_empty slots is = ap (λ s. segment_at s (memory.current + 1)) is ∙ from (segment_at (without_unused memory.slots memory.current) (memory.current + 1)) refl
+  next_empty slots is = ap (λ s. segment_at s (memory.current + 1)) is
+      ∙ from (segment_at (without_unused memory.slots memory.current) (memory.current + 1)) refl
     where
       from : (slot : Option HeldSegment) →
           segment_at (without_unused memory.slots memory.current) (memory.current + 1) ≡ slot →
@@ -103,36 +104,38 @@ module _ (memory : MemoryState) (sound : IsSoundMemory memory) where
         (all_slots ∙ ap (with_segment (without_unused memory.slots memory.current) (memory.current + 1)) is_new)
 
     left_by_creation : (h : Handle) → LeavesHandle old mid h
-    left_by_creation = leaves_created old mid (segment_path memory.settings memory.name (memory.current + 1)) value version
+    left_by_creation = leaves_created old mid (segment_path memory.settings memory.name (memory.current + 1)) value
+        version
         free created
 
     spared_new : IsSpared (segment_at memory.slots memory.current) handle
     spared_new held at none same = fresh memory.current held at (sym same)
 
-    module _ (leaves : (h : Handle) → IsSpared (segment_at memory.slots memory.current) h → LeavesHandle mid new h) where
-      left : (h : Handle) → IsSpared (segment_at memory.slots memory.current) h → LeavesHandle old new h
-      left h spared = LeavesHandle-then old mid new h (left_by_creation h) (leaves h spared)
+    module _ (leaves : (h : Handle) → IsSpared (segment_at memory.slots memory.current) h → LeavesHandle mid new h)
+      where
+        left : (h : Handle) → IsSpared (segment_at memory.slots memory.current) h → LeavesHandle old new h
+        left h spared = LeavesHandle-then old mid new h (left_by_creation h) (leaves h spared)
 
-      each_stays_grown : Holds mid 1 handle → IsNamed mid handle → EachHeld slots (Stays old new memory grown_it)
-      each_stays_grown holds named =
-          subst (λ s. EachHeld s (Stays old new memory grown_it)) (sym all_slots)
-          (each_grown memory sound handle fresh not_management
-          (ap (λ (h : Handle). h.is_owner) is_new) (ap (λ (h : Handle). h.path) is_new) (omega arith)
-          (Stays old new memory grown_it)
-          (let leaves_new = leaves handle spared_new in
-          inr (record {
-            has = leaves_new.has holds.0;
-            holds = leaves_new.holds 1 (omega arith) (omega arith) holds;
-            named = leaves_new.named named;
-          }))
-          (λ number held apart is.
-          inl (record { one = held; there = is.there; same = refl }, left held.handle is.spared)))
+        each_stays_grown : Holds mid 1 handle → IsNamed mid handle → EachHeld slots (Stays old new memory grown_it)
+        each_stays_grown holds named =
+            subst (λ s. EachHeld s (Stays old new memory grown_it)) (sym all_slots)
+            (each_grown memory sound handle fresh not_management
+            (ap (λ (h : Handle). h.is_owner) is_new) (ap (λ (h : Handle). h.path) is_new) (omega arith)
+            (Stays old new memory grown_it)
+            (let leaves_new = leaves handle spared_new in
+            inr (record {
+              has = leaves_new.has holds.0;
+              holds = leaves_new.holds 1 (omega arith) (omega arith) holds;
+              named = leaves_new.named named;
+            }))
+            (λ number held apart is.
+            inl (record { one = held; there = is.there; same = refl }, left held.handle is.spared)))
 
-      pub KeepsOwn-grown : Holds mid 1 handle → IsNamed mid handle → KeepsOwn old memory new grown_it
-      KeepsOwn-grown holds named =
-          KeepsOwn-stays old new memory grown_it refl
-          (left memory.management (spares_management memory sound memory.current))
-          (each_stays_grown holds named) has
+        pub KeepsOwn-grown : Holds mid 1 handle → IsNamed mid handle → KeepsOwn old memory new grown_it
+        KeepsOwn-grown holds named =
+            KeepsOwn-stays old new memory grown_it refl
+            (left memory.management (spares_management memory sound memory.current))
+            (each_stays_grown holds named) has
 
     -- the new segment is the current one
     pub new_segment_at : segment_at slots (memory.current + 1) ≡ Some (record { handle = handle; count = 0 })
@@ -154,13 +157,15 @@ module _ (memory : MemoryState) (sound : IsSoundMemory memory) where
         ∙ value_of-after_retiring mid (segment_at memory.slots memory.current) handle.id
         (λ held at same. fresh memory.current held at (sym same))
         ∙ ap (λ contents. value_of contents handle.id) created
-        ∙ ap (value_of (after_creation old (segment_path memory.settings memory.name (memory.current + 1)) value version))
+        ∙ ap (value_of (after_creation old (segment_path memory.settings memory.name (memory.current + 1)) value
+        version))
         (ap (λ (h : Handle). h.id) is_new)
         ∙ ap (option_map (λ (entry : Entry T). entry.value)) made.entry
       where
         made : MakesEntry old (after_creation old (segment_path memory.settings memory.name (memory.current + 1)) value
             version) (segment_path memory.settings memory.name (memory.current + 1)) value version
-        made = after_creation-MakesEntry old (segment_path memory.settings memory.name (memory.current + 1)) value version
+        made = after_creation-MakesEntry old (segment_path memory.settings memory.name (memory.current + 1)) value
+            version
 
     pub of_new_segment : new ≡ after_retiring mid (segment_at memory.slots memory.current) →
         OfSegment new slots (memory.current + 1) (λ v. v ≡ value)
@@ -174,7 +179,8 @@ module _ (memory : MemoryState) (sound : IsSoundMemory memory) where
       | inl same ↦
           let at : segment_at slots (memory.current + 1) ≡ Some is.held =
           ap (segment_at slots) (sym same) ∙ is.there in
-          absurd (fresh was.number was.held was.there (was.same ∙ sym is.same ∙ ap (λ (h : Handle). h.id) (new_at is.held at)))
+          absurd (fresh was.number was.held was.there (was.same ∙ sym is.same
+          ∙ ap (λ (h : Handle). h.id) (new_at is.held at)))
       | inr apart ↦ record {
         number = is.number;
         held = is.held;

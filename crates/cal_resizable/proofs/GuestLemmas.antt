@@ -1,11 +1,10 @@
 -- What the close of a handle that doesn't own its name leaves of another handle.
-use Rattle.std.proofs.Common.{◌≡◌, ◌≢◌, ℕ, ◌+◌, ◌<◌, ◌≤◌, ◌-◌, ◌^◌, ◌==◌, Bool, true, false, not, ◌&&◌, if◌then◌else◌, Option, Some, None, IsSomeAnd, List, option_map, refl, sym, ap, ◌∙◌, subst, inl, inr, arith}
+use Rattle.std.proofs.Common.{◌≡◌, ℕ, ◌≤◌, ◌-◌, ◌^◌, Bool, true, false, not, ◌&&◌, if◌then◌else◌, Option, Some, None, IsSomeAnd, List, option_map, refl, sym, ap, ◌∙◌, subst, inl, inr, arith}
 use Rattle.std.proofs.lemmas.Bool.{cases_eq}
-use Rattle.std.proofs.lemmas.Option.{none-some, same_Some}
 use Rattle.cal_storage.specs.declared.entry.Entry.{Entry}
 use Rattle.cal_storage.specs.declared.entry.Slot.{Slot}
 use Rattle.cal_storage.specs.declared.entry.Slot.TheVariants.{Ended, Kept}
-use Rattle.cal_storage.specs.Contents.{Contents, Has, is_named, entry_in, slot_with_holder_less, slot_if_used, one_less, id_at, slot_of, entry_of, value_of, with_slot, without_own_name, after_close}
+use Rattle.cal_storage.specs.Contents.{Contents, Has, is_named, entry_in, slot_with_holder_less, slot_if_used, id_at, slot_of, entry_of, value_of, with_slot, without_own_name, after_close}
 use Rattle.cal_storage.specs.ContentsLaws.{one_holder_less}
 use Rattle.cal_storage.specs.HandleLemmas.{Has-same}
 use Rattle.cal_storage.specs.Holding.{HasHolders, Holds, IsNamed}

@@ -1,11 +1,11 @@
 -- What calls leave of the entries of a growing memory.
-use Rattle.std.proofs.Common.{◌≡◌, ◌≢◌, ℕ, ◌+◌, ◌-◌, ◌<◌, ◌≤◌, ◌^◌, ◌⊎◌, ◌==◌, Bool, true, false, if◌then◌else◌, Option, Some, None, IsSomeAnd, option_map, length, slice_set, refl, sym, ap, ◌∙◌, subst, inl, inr, arith, true≢false, eqb-true, eq-eqb}
+use Rattle.std.proofs.Common.{◌≡◌, ◌≢◌, ℕ, ◌+◌, ◌-◌, ◌<◌, ◌⊎◌, ◌==◌, Bool, true, false, if◌then◌else◌, Option, Some, None, IsSomeAnd, option_map, length, slice_set, refl, sym, ap, ◌∙◌, subst, inl, inr, arith, true≢false, eqb-true, eq-eqb}
 use Rattle.std.proofs.lemmas.List.{length-set}
 use Rattle.std.proofs.lemmas.Option.{none-some, same_Some}
 use Rattle.cal_alloc.specs.PointerOffset.{pointer_offset, offset_of}
 use Rattle.cal_alloc.specs.SizeAndAlignment.{SizeAndAlignment}
 use Rattle.cal_alloc.specs.declared.shm_allocator.ShmAllocator as allocator
-use Rattle.cal_storage.specs.Contents.{Contents, Has, with_value}
+use Rattle.cal_storage.specs.Contents.{Contents, Has}
 use Rattle.cal_storage.specs.Holding.{Holds, IsNamed}
 use Rattle.cal_shm.specs.Calls.{ChangesAllocator}
 use Rattle.cal_shm.specs.Segment.{Segment, with_allocator}
@@ -82,7 +82,8 @@ module _ (slots : Slots) (number : ℕ) (held : HeldSegment) (at : segment_at sl
 
   pub was_held-more : EachHeld (with_more slots number) (WasHeld slots)
   was_held-more =
-      subst (λ s. EachHeld s (WasHeld slots)) (sym with_more-is) (was_held-recounted slots number held at (held.count + 1))
+      subst (λ s. EachHeld s (WasHeld slots)) (sym with_more-is) (was_held-recounted slots number held at
+      (held.count + 1))
 
 module _ (memory : MemoryState) (sound : IsSoundMemory memory) (slots : Slots)
     (more : slots ≡ with_more memory.slots memory.current) where
@@ -137,14 +138,16 @@ module _ (slots : Slots) (number : ℕ) (held : HeldSegment) (at : segment_at sl
 
   pub was_held-less : EachHeld (with_less slots number) (WasHeld slots)
   was_held-less =
-      subst (λ s. EachHeld s (WasHeld slots)) (sym with_less-is) (was_held-recounted slots number held at (held.count - 1))
+      subst (λ s. EachHeld s (WasHeld slots)) (sym with_less-is) (was_held-recounted slots number held at
+      (held.count - 1))
 
   pub length_less : length (with_less slots number) ≡ length slots
   length_less = length-set slots number (counted_less (segment_at slots number))
 
   pub less_at : segment_at (with_less slots number) number ≡ Some (record held { count = held.count - 1 })
   less_at = ap (λ s. segment_at s number) with_less-is
-      ∙ segment_at-set-same slots number (Some (record held { count = held.count - 1 })) (within_slots slots number held at)
+      ∙ segment_at-set-same slots number (Some (record held { count = held.count - 1 }))
+      (within_slots slots number held at)
 
 module _ (memory : MemoryState) (sound : IsSoundMemory memory) (number : ℕ) (held : HeldSegment)
     (at : segment_at memory.slots number ≡ Some held) where

@@ -1,13 +1,13 @@
 -- Which handles are left as they were, over each change to a registry.
-use Rattle.std.proofs.Common.{◌≡◌, ◌≢◌, ℕ, ◌+◌, ◌<◌, ◌≤◌, ◌^◌, List, Option, Some, None, IsSomeAnd, option_map, refl, sym, ap, ◌∙◌, subst, inl, inr, arith, true≢false}
+use Rattle.std.proofs.Common.{◌≡◌, ◌≢◌, ℕ, ◌+◌, ◌≤◌, List, Option, Some, None, IsSomeAnd, option_map, refl, sym, ap, ◌∙◌, subst, inl, inr, arith, true≢false}
 use Rattle.std.proofs.lemmas.Bool.{cases_eq}
 use Rattle.std.proofs.lemmas.Option.{none-some, same_Some}
 use Rattle.cal_storage.specs.declared.entry.Entry.{Entry}
 use Rattle.cal_storage.specs.Contents.{Contents, Has, is_path, id_at, entry_of, after_creation, after_close, with_value}
-use Rattle.cal_storage.specs.ContentsLaws.{LeavesOthers, LetsGo}
+use Rattle.cal_storage.specs.ContentsLaws.{LetsGo}
 use Rattle.cal_storage.specs.EntryLemmas.{after_close-LetsGo}
 use Rattle.cal_storage.specs.HandleLemmas.{has_entry, Has-same, Has-after_creation}
-use Rattle.cal_storage.specs.Holding.{HasHolders, Holds, IsNamed, KeepsHandles, KeepsOtherHandles, LeavesSharers}
+use Rattle.cal_storage.specs.Holding.{IsNamed, LeavesSharers}
 use Rattle.cal_storage.specs.HoldingLemmas.{Holds-weaker, KeepsHandles-after_creation, KeepsHandles-with_value}
 use Rattle.cal_storage.specs.NameLemmas.{is_path-apart, is_path-same, cases_path}
 use Rattle.cal_storage.specs.Soundness.{IsSound}

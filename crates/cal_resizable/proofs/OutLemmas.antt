@@ -1,5 +1,5 @@
 -- Which chunks of a growing memory stay out.
-use Rattle.std.proofs.Common.{◌≡◌, ◌≢◌, ℕ, zero, suc, ◌+◌, ◌<◌, ◌≤◌, ◌==◌, Bool, true, false, if◌then◌else◌, Option, Some, None, IsSome, List, [], ◌∷◌, refl, sym, ap, ◌∙◌, subst, inl, inr, arith, lit<, ne_eqb, eq-eqb, eqb-true}
+use Rattle.std.proofs.Common.{◌≡◌, ◌≢◌, ℕ, zero, suc, ◌+◌, ◌<◌, ◌≤◌, ◌==◌, Bool, true, false, if◌then◌else◌, Some, None, List, [], ◌∷◌, refl, sym, ap, ◌∙◌, subst, inl, inr, arith, lit<, ne_eqb, eq-eqb, eqb-true}
 use Rattle.std.specs.List.{AllByRecursion, slice_get}
 use Rattle.std.proofs.lemmas.Bool.{cases_eq}
 use Rattle.std.proofs.lemmas.Option.{none-some, same_Some}
@@ -12,11 +12,11 @@ use Rattle.cal_shm.specs.Calls.{IsInPayload}
 use Rattle.cal_shm.specs.Segment.{Segment, with_allocator}
 use Rattle.cal_resizable.specs.Chunks.{Chunk, AreDisjoint, NoneOverlap, one_where, number_within, without_chunk, value_in, segment_value, GrowsTo, GivesChunk, ReturnsChunk, IsOut, AreOut, AddsSized, RemovesChunk}
 use Rattle.cal_resizable.specs.Memory.{MemoryState}
-use Rattle.cal_resizable.specs.Slots.{Slots, HeldSegment, segment_at, count_in, count_at, without_unused, without_segment}
+use Rattle.cal_resizable.specs.Slots.{Slots, segment_at, count_in, count_at, without_unused, without_segment}
 use Rattle.cal_resizable.proofs.ChunkLemmas.{offset_back}
 use Rattle.cal_resizable.proofs.KeepingLemmas.{some_counted}
 use Rattle.cal_resizable.proofs.MemoryLemmas.{is_some-from}
-use Rattle.cal_resizable.proofs.SlotLemmas.{segment_at-set-same, segment_at-set-other, within_slots}
+use Rattle.cal_resizable.proofs.SlotLemmas.{segment_at-set-other}
 
 -- ---- lists of chunks
 
@@ -102,7 +102,8 @@ counted-without (first ∷ chunks) (suc index) chunk number at =
 in_segment : (pointer size byte : ℕ) → IsInChunk pointer size byte →
     IsInChunk (pointer_offset (offset_of pointer) 0) size byte
 in_segment pointer size byte inside =
-    subst (λ offset. (offset ≤ byte) × (byte < offset + size)) (sym (offset_back (offset_of pointer) 0 (lit< tt))) inside
+    subst (λ offset. (offset ≤ byte) × (byte < offset + size)) (sym (offset_back (offset_of pointer) 0 (lit< tt)))
+    inside
 
 from_segment : (pointer size byte : ℕ) → IsInChunk (pointer_offset (offset_of pointer) 0) size byte →
     IsInChunk pointer size byte
@@ -168,19 +169,24 @@ module _ {A : Type 0} (properties : A → Properties) (IsByteUsed IsAllocated : 
   -- chunks that are out lie in segments that are counted
   out_and_counted : (contents : Contents (Segment A)) (slots : Slots) (chunks : List Chunk) →
       AreOut properties IsByteUsed IsAllocated contents slots chunks →
-      AllByRecursion (λ chunk. IsOut properties IsByteUsed IsAllocated contents slots chunk × (0 < count_at slots (segment_of chunk.pointer)))
+      AllByRecursion (λ chunk. IsOut properties IsByteUsed IsAllocated contents slots chunk ×
+      (0 < count_at slots (segment_of chunk.pointer)))
       chunks
   out_and_counted contents slots chunks out =
-      all-both (IsOut properties IsByteUsed IsAllocated contents slots) (λ chunk. 0 < number_within (segment_of chunk.pointer) chunks)
-      (λ chunk. IsOut properties IsByteUsed IsAllocated contents slots chunk × (0 < count_at slots (segment_of chunk.pointer))) chunks
+      all-both (IsOut properties IsByteUsed IsAllocated contents slots)
+      (λ chunk. 0 < number_within (segment_of chunk.pointer) chunks)
+      (λ chunk. IsOut properties IsByteUsed IsAllocated contents slots chunk ×
+      (0 < count_at slots (segment_of chunk.pointer))) chunks
       (λ chunk is counted. (is, omega (arith, counted, out.counted (segment_of chunk.pointer))))
       out.each (each_counted chunks chunks (λ number. omega arith))
 
   pub AreOut-elsewhere : (old new : Contents (Segment A)) (slots : Slots) (chunks : List Chunk) →
       ((number : ℕ) → segment_value new slots number ≡ segment_value old slots number) →
-      AreOut properties IsByteUsed IsAllocated old slots chunks → AreOut properties IsByteUsed IsAllocated new slots chunks
+      AreOut properties IsByteUsed IsAllocated old slots chunks → AreOut properties IsByteUsed IsAllocated new slots
+      chunks
   AreOut-elsewhere old new slots chunks same out = record {
-    each = all-map (IsOut properties IsByteUsed IsAllocated old slots) (IsOut properties IsByteUsed IsAllocated new slots) chunks
+    each = all-map (IsOut properties IsByteUsed IsAllocated old slots) (IsOut properties IsByteUsed IsAllocated new
+        slots) chunks
         (λ chunk. same-IsOut old new slots slots chunk (same (segment_of chunk.pointer))) out.each;
     apart = out.apart;
     counted = out.counted;
@@ -205,7 +211,8 @@ module _ {A : Type 0} (properties : A → Properties) (IsByteUsed IsAllocated : 
     ]
 
     grown_out : (chunk : Chunk) →
-        IsOut properties IsByteUsed IsAllocated old before.slots chunk × (0 < count_at before.slots (segment_of chunk.pointer)) →
+        IsOut properties IsByteUsed IsAllocated old before.slots chunk ×
+        (0 < count_at before.slots (segment_of chunk.pointer)) →
         IsOut properties IsByteUsed IsAllocated new after.slots chunk
     grown_out chunk is =
         let number : ℕ = segment_of chunk.pointer in
@@ -216,11 +223,14 @@ module _ {A : Type 0} (properties : A → Properties) (IsByteUsed IsAllocated : 
         (grows.others.values number apart
         ∙ ap (λ slot. value_in old slot) (counted-without_unused before.slots before.current number is.1)) is.0
 
-    pub AreOut-grown : (chunks : List Chunk) → AreOut properties IsByteUsed IsAllocated old before.slots chunks → AreOut properties IsByteUsed IsAllocated new after.slots chunks
+    pub AreOut-grown : (chunks : List Chunk) → AreOut properties IsByteUsed IsAllocated old before.slots chunks →
+        AreOut properties IsByteUsed IsAllocated new after.slots chunks
     AreOut-grown chunks out = record {
       each = all-map
-          (λ chunk. IsOut properties IsByteUsed IsAllocated old before.slots chunk × (0 < count_at before.slots (segment_of chunk.pointer)))
-          (IsOut properties IsByteUsed IsAllocated new after.slots) chunks grown_out (out_and_counted old before.slots chunks out);
+          (λ chunk. IsOut properties IsByteUsed IsAllocated old before.slots chunk ×
+          (0 < count_at before.slots (segment_of chunk.pointer)))
+          (IsOut properties IsByteUsed IsAllocated new after.slots) chunks grown_out
+          (out_and_counted old before.slots chunks out);
       apart = out.apart;
       counted = λ number. grown_count number ∙ out.counted number;
     }
@@ -248,12 +258,14 @@ module _ {A C : Type 0} (rules : shm_allocator.Ghosts A C) (allocation : (old : 
   at_pointer = ap (segment_value new after) gives.carries ∙ gives.becomes
 
   -- the segment of a chunk that was out, where that is the one that gave another
-  was_there : (chunk : Chunk) (out : IsOut rules.properties rules.IsByteUsed rules.IsAllocated old before chunk) → segment_of chunk.pointer ≡ number →
+  was_there : (chunk : Chunk) (out : IsOut rules.properties rules.IsByteUsed rules.IsAllocated old before chunk) →
+      segment_of chunk.pointer ≡ number →
       out.segment ≡ gives.was
   was_there chunk out same =
       same_Some out.segment gives.was (sym out.there ∙ ap (segment_value old before) same ∙ gives.origin)
 
-  given_out : (chunk : Chunk) → IsOut rules.properties rules.IsByteUsed rules.IsAllocated old before chunk → IsOut rules.properties rules.IsByteUsed rules.IsAllocated new after chunk
+  given_out : (chunk : Chunk) → IsOut rules.properties rules.IsByteUsed rules.IsAllocated old before chunk →
+      IsOut rules.properties rules.IsByteUsed rules.IsAllocated new after chunk
   given_out chunk out = elim (cases_eq (segment_of chunk.pointer) number) [
     | inl same ↦
         let is : out.segment ≡ gives.was = was_there chunk out same in
@@ -273,7 +285,8 @@ module _ {A C : Type 0} (rules : shm_allocator.Ghosts A C) (allocation : (old : 
           within = subst (λ (s : Segment A). IsInPayload s.payload (offset_of chunk.pointer) chunk.size) is out.within;
         }
     | inr apart ↦
-        same-IsOut rules.properties rules.IsByteUsed rules.IsAllocated old new before after chunk (gives.others.values (segment_of chunk.pointer) apart) out
+        same-IsOut rules.properties rules.IsByteUsed rules.IsAllocated old new before after chunk
+        (gives.others.values (segment_of chunk.pointer) apart) out
   ]
 
   module _ (size : ℕ) (sized_left : chunk_size (rules.properties gives.left) layout ≡ size) (some : 0 < size)
@@ -301,13 +314,15 @@ module _ {A C : Type 0} (rules : shm_allocator.Ghosts A C) (allocation : (old : 
       within = subst (λ s. IsInPayload gives.was.payload (offset_of pointer) s) sized_was gives.within;
     }
 
-    disjoint_given : (chunk : Chunk) → IsOut rules.properties rules.IsByteUsed rules.IsAllocated old before chunk → AreDisjoint given_chunk chunk
+    disjoint_given : (chunk : Chunk) → IsOut rules.properties rules.IsByteUsed rules.IsAllocated old before chunk →
+        AreDisjoint given_chunk chunk
     disjoint_given chunk out same byte inside in_chunk =
         law.bytes.was_free byte (inside_was byte inside)
         (subst (λ (s : Segment A). rules.IsByteUsed s.allocator byte)
         (was_there chunk out (sym same ∙ gives.carries)) (out.taken byte in_chunk))
 
-    given_count : (chunks : List Chunk) → AreOut rules.properties rules.IsByteUsed rules.IsAllocated old before chunks → (n : ℕ) →
+    given_count : (chunks : List Chunk) → AreOut rules.properties rules.IsByteUsed rules.IsAllocated old before chunks →
+        (n : ℕ) →
         count_at after n ≡ number_within n (given_chunk ∷ chunks)
     given_count chunks out n = elim (cases_eq n number) [
       | inl same ↦
@@ -327,19 +342,30 @@ module _ {A C : Type 0} (rules : shm_allocator.Ghosts A C) (allocation : (old : 
           omega (arith, not_here, ap count_in (gives.others.slots n apart), out.counted n)
     ]
 
-    AreOut-given : (chunks : List Chunk) → AreOut rules.properties rules.IsByteUsed rules.IsAllocated old before chunks →
+    AreOut-given : (chunks : List Chunk) → AreOut rules.properties rules.IsByteUsed rules.IsAllocated old before chunks
+        →
         AreOut rules.properties rules.IsByteUsed rules.IsAllocated new after (given_chunk ∷ chunks)
     AreOut-given chunks out = record {
-      each = (chunk_out, all-map (IsOut rules.properties rules.IsByteUsed rules.IsAllocated old before) (IsOut rules.properties rules.IsByteUsed rules.IsAllocated new after) chunks given_out out.each);
-      apart = (all-map (IsOut rules.properties rules.IsByteUsed rules.IsAllocated old before) (AreDisjoint given_chunk) chunks disjoint_given out.each, out.apart);
+      each = (
+        chunk_out,
+        all-map (IsOut rules.properties rules.IsByteUsed rules.IsAllocated old before)
+            (IsOut rules.properties rules.IsByteUsed rules.IsAllocated new after) chunks given_out out.each,
+      );
+      apart = (
+        all-map (IsOut rules.properties rules.IsByteUsed rules.IsAllocated old before) (AreDisjoint given_chunk)
+            chunks disjoint_given out.each,
+        out.apart,
+      );
       counted = given_count chunks out;
     }
 
-  pub AddsSized-given : AddsSized rules.properties rules.IsByteUsed rules.IsAllocated old before layout pointer new after
+  pub AddsSized-given : AddsSized rules.properties rules.IsByteUsed rules.IsAllocated old before layout pointer new
+      after
   AddsSized-given size chunks is at sized some large out =
       let same : is ≡ segment = same_Some is segment (sym at ∙ at_pointer) in
       AreOut-given size
-      (subst (λ (s : Segment A). chunk_size (rules.properties s.allocator) layout ≡ size) same sized) some large chunks out
+      (subst (λ (s : Segment A). chunk_size (rules.properties s.allocator) layout ≡ size) same sized) some large chunks
+      out
 
 -- ---- over a return
 
@@ -456,16 +482,20 @@ module _ {A : Type 0} (properties : A → Properties) (IsByteUsed IsAllocated : 
                 was.within;
           }
       | inr apart ↦
-          same-IsOut properties IsByteUsed IsAllocated old new before after other (returns.others.values (segment_of other.pointer) apart) is.0
+          same-IsOut properties IsByteUsed IsAllocated old new before after other
+          (returns.others.values (segment_of other.pointer) apart) is.0
     ]
 
     others : AllByRecursion Other rest
-    others = all-both (IsOut properties IsByteUsed IsAllocated old before) (AreDisjoint chunk) Other rest (λ other is apart. (is, apart))
-        (all-without (IsOut properties IsByteUsed IsAllocated old before) chunks index out.each) (disjoint-at chunks index chunk at out.apart)
+    others = all-both (IsOut properties IsByteUsed IsAllocated old before) (AreDisjoint chunk) Other rest
+        (λ other is apart. (is, apart))
+        (all-without (IsOut properties IsByteUsed IsAllocated old before) chunks index out.each)
+        (disjoint-at chunks index chunk at out.apart)
 
     AreOut-returned : AreOut properties IsByteUsed IsAllocated new after rest
     AreOut-returned = record {
-      each = all-both Other (λ other. 0 < number_within (segment_of other.pointer) rest) (IsOut properties IsByteUsed IsAllocated new after) rest
+      each = all-both Other (λ other. 0 < number_within (segment_of other.pointer) rest)
+          (IsOut properties IsByteUsed IsAllocated new after) rest
           left_out others (each_counted rest rest (λ n. omega arith));
       apart = overlap-without chunks index out.apart;
       counted = left_count;

@@ -1,5 +1,5 @@
 -- Which segment a call of a growing memory changes.
-use Rattle.std.proofs.Common.{◌≡◌, ◌≢◌, ℕ, ◌+◌, ◌-◌, ◌<◌, ◌≤◌, ◌==◌, Bool, true, false, if◌then◌else◌, Option, Some, None, IsSome, IsSomeAnd, List, length, slice_set, option_map, refl, sym, ap, ◌∙◌, subst, arith, eqb-true}
+use Rattle.std.proofs.Common.{◌≡◌, ◌≢◌, ℕ, ◌+◌, ◌-◌, ◌<◌, ◌==◌, Bool, true, false, if◌then◌else◌, Option, Some, None, IsSome, IsSomeAnd, List, length, slice_set, option_map, refl, sym, ap, ◌∙◌, subst, arith, eqb-true}
 use Rattle.std.proofs.lemmas.Bool.{false≢true}
 use Rattle.std.proofs.lemmas.Option.{none-some}
 use Rattle.cal_alloc.specs.Chunks.{IsAllocation, chunk_size}
@@ -7,16 +7,15 @@ use Rattle.cal_alloc.specs.PointerOffset.{pointer_offset, offset_of, segment_of}
 use Rattle.cal_alloc.specs.SizeAndAlignment.{SizeAndAlignment}
 use Rattle.cal_alloc.specs.declared.shm_allocator.ShmAllocator as shm_allocator
 use Rattle.cal_storage.specs.declared.entry.Entry.{Entry}
-use Rattle.cal_storage.specs.Contents.{Contents, entry_of, value_of, after_creation, after_close, with_value}
-use Rattle.cal_storage.specs.ContentsLaws.{LeavesOthers, MakesEntry}
+use Rattle.cal_storage.specs.Contents.{Contents, value_of, after_creation, after_close}
 use Rattle.cal_storage.specs.EntryLemmas.{after_creation-LeavesOthers, after_creation-MakesEntry}
 use Rattle.cal_storage.specs.ValueLemmas.{entry_of-after_close-other, value_of-with_value-same, value_of-with_value-other}
-use Rattle.cal_shm.specs.Calls.{ChangesAllocator, IsInPayload, IsChunkWithin}
+use Rattle.cal_shm.specs.Calls.{IsInPayload, IsChunkWithin}
 use Rattle.cal_shm.specs.Segment.{Segment, with_allocator}
 use Rattle.cal_resizable.specs.Chunks.{value_in, segment_value, LeavesSegments, GrowsTo, GivesChunk, ReturnsChunk}
-use Rattle.cal_resizable.specs.Growth.{OfSegment, AllocatesHere, TakesBack, after_return, returned_contents, next_handle, grown_memory}
+use Rattle.cal_resizable.specs.Growth.{OfSegment, AllocatesHere, TakesBack, after_return, next_handle, grown_memory}
 use Rattle.cal_resizable.specs.Memory.{MemoryState, IsSoundMemory, HasAll, segment_path}
-use Rattle.cal_resizable.specs.Slots.{Handle, Slots, HeldSegment, segment_at, with_more, with_less, counted_more, counted_less, count_in, count_at, without_unused, without_segment, with_segment, after_retiring, IsSpared, EachHeld}
+use Rattle.cal_resizable.specs.Slots.{Handle, Slots, HeldSegment, segment_at, with_less, counted_more, counted_less, count_in, count_at, without_unused, without_segment, with_segment, after_retiring, IsSpared}
 use Rattle.cal_resizable.proofs.ChunkLemmas.{offset_back, segment_back, in_first}
 use Rattle.cal_resizable.proofs.GrowthLemmas.{not_new, value_of-after_retiring}
 use Rattle.cal_resizable.proofs.KeepingLemmas.{less_at}

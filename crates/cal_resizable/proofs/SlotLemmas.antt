@@ -3,8 +3,8 @@ use Rattle.std.proofs.Common.{◌≡◌, ◌≢◌, ℕ, zero, suc, ◌+◌, ◌
 use Rattle.std.proofs.lemmas.Bool.{cases_eq}
 use Rattle.std.proofs.Math.ListN.{get_or-map}
 use Rattle.std.proofs.lemmas.List.{get_or-set_same, get_or-set_other, length-map, length-set, map-set}
-use Rattle.std.proofs.lemmas.Option.{none-some, same_Some}
-use Rattle.cal_resizable.specs.Slots.{Handle, Slots, HeldSegment, segment_at, number_in, number_held, EachHeld}
+use Rattle.std.proofs.lemmas.Option.{none-some}
+use Rattle.cal_resizable.specs.Slots.{Slots, HeldSegment, segment_at, number_in, number_held, EachHeld}
 
 -- ---- lists
 

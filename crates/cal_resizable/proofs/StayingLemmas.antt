@@ -1,5 +1,5 @@
 -- What the calls of a growing memory leave of the chunks that are out.
-use Rattle.std.proofs.Common.{◌≡◌, ℕ, ◌+◌, ◌<◌, ◌≤◌, Option, Some, None, IsSome, Result, Ok, Err, IfOk, sym, ap, ◌∙◌, subst, refl, arith}
+use Rattle.std.proofs.Common.{◌≡◌, ℕ, ◌<◌, ◌≤◌, Some, None, IsSome, Result, Ok, Err, IfOk, sym, ap, ◌∙◌, subst, refl, arith}
 use Rattle.cal_alloc.specs.Chunks.{Properties, IsAllocation, IsDeallocation, chunk_size}
 use Rattle.cal_alloc.specs.PointerOffset.{pointer_offset, offset_of, segment_of}
 use Rattle.cal_alloc.specs.SizeAndAlignment.{SizeAndAlignment}
@@ -28,7 +28,8 @@ module _ {A C : Type 0} (rules : shm_allocator.Ghosts A C) (allocation : (old : 
   -- the current segment hands out a chunk
   pub AddsChunk-here : (old new : Contents (Segment A)) (before after : MemoryState) → IsSoundMemory before →
       HasAll old before → AllocatesHere rules old before layout pointer new after →
-      OfSegment new after.slots (segment_of pointer) (λ segment. IsChunkWithin rules.properties segment layout pointer) →
+      OfSegment new after.slots (segment_of pointer) (λ segment. IsChunkWithin rules.properties segment layout pointer)
+      →
       OfSegment old before.slots before.current (λ segment. None ≡ rules.refusal segment.allocator layout) →
       AddsChunk rules.properties rules.IsByteUsed rules.IsAllocated old before.slots layout pointer new after.slots
   AddsChunk-here old new before after sound has here fits serves chunks some out =
@@ -37,13 +38,15 @@ module _ {A C : Type 0} (rules : shm_allocator.Ghosts A C) (allocation : (old : 
       let size : ℕ = chunk_size (rules.properties gives.left) layout in
       let large : layout.size ≤ chunk_size (rules.properties gives.was.allocator) layout =
       served gives.was.allocator layout
-      (sym (of_value old before.slots before.current (λ segment. None ≡ rules.refusal segment.allocator layout) gives.was
+      (sym (of_value old before.slots before.current (λ segment. None ≡ rules.refusal segment.allocator layout)
+      gives.was
       serves gives.origin)) in
       let same : chunk_size (rules.properties gives.left) layout
       ≡ chunk_size (rules.properties gives.was.allocator) layout =
       ap (λ p. chunk_size p layout) law.properties in (
         size,
-        AddsSized-given rules allocation old new before.slots after.slots before.current layout pointer gives size chunks
+        AddsSized-given rules allocation old new before.slots after.slots before.current layout pointer gives size
+            chunks
             (with_allocator gives.was gives.left)
             (ap (segment_value new after.slots) gives.carries ∙ gives.becomes) refl
             (omega (arith, large, same, some)) (omega (arith, large, same)) out,
@@ -67,7 +70,8 @@ module _ {A C : Type 0} (rules : shm_allocator.Ghosts A C) (allocation : (old : 
         AddsChunk rules.properties rules.IsByteUsed rules.IsAllocated old before.slots layout pointer new after.slots
     AddsChunk-grown sound_between has_between here fits serves chunks some out =
         AddsChunk-here mid new between after sound_between has_between here fits serves chunks some
-        (AreOut-grown rules.properties rules.IsByteUsed rules.IsAllocated old mid before between (made_segment rules hint) grows chunks out)
+        (AreOut-grown rules.properties rules.IsByteUsed rules.IsAllocated old mid before between
+        (made_segment rules hint) grows chunks out)
 
 -- the cause why the current segment doesn't serve a layout
 pub not_served : {A C : Type 0} (rules : shm_allocator.Ghosts A C) (old : Contents (Segment A)) (memory : MemoryState)
@@ -86,7 +90,8 @@ pub RemovesChunk-taken : {A : Type 0} (properties : A → Properties) (IsByteUse
     IsSoundMemory before → HasAll old before → 0 < count_at before.slots (segment_of pointer) →
     TakesBack (λ was is. Deallocates was (pointer_offset (offset_of pointer) 0) is) old before (segment_of pointer) new
     after → RemovesChunk properties IsByteUsed IsAllocated old before.slots pointer new after.slots
-RemovesChunk-taken properties IsByteUsed IsAllocated Deallocates deallocation old new before after pointer sound has some
+RemovesChunk-taken properties IsByteUsed IsAllocated Deallocates deallocation old new before after pointer sound has
+    some
     takes =
     RemovesChunk-returned properties IsByteUsed IsAllocated Deallocates deallocation old new before.slots after.slots
     pointer

@@ -1,5 +1,5 @@
 -- That a memory and a view of it stay together over the memory's calls.
-use Rattle.std.proofs.Common.{◌≡◌, ◌≢◌, ℕ, zero, suc, ◌+◌, ◌<◌, ◌≤◌, ◌==◌, ◌⊎◌, ◌&&◌, ◌||◌, Bool, true, false, not, if◌then◌else◌, Option, Some, None, IsSomeAnd, Result, Ok, Err, List, [], ◌∷◌, length, refl, sym, ap, ◌∙◌, subst, inl, inr, arith, true≢false, eq-eqb}
+use Rattle.std.proofs.Common.{◌≡◌, ◌≢◌, ℕ, zero, suc, ◌+◌, ◌<◌, ◌≤◌, ◌==◌, ◌⊎◌, ◌&&◌, ◌||◌, Bool, true, false, not, if◌then◌else◌, Option, Some, None, IsSomeAnd, Err, List, [], ◌∷◌, refl, sym, ap, ◌∙◌, subst, inl, inr, arith, true≢false, eq-eqb}
 use Rattle.std.specs.Prelude.{nat_le}
 use Rattle.std.proofs.lemmas.Bool.{cases_eq}
 use Rattle.std.proofs.lemmas.Option.{none-some, same_Some}
@@ -14,21 +14,20 @@ use Rattle.cal_storage.specs.Refusals.{finished_version}
 use Rattle.cal_storage.specs.SoundnessLemmas.{id_at-after_creation-other}
 use Rattle.cal_shm.specs.Calls.{OfValue, with_written, with_written_in}
 use Rattle.cal_shm.specs.Segment.{Segment, with_allocator, with_bytes}
-use Rattle.cal_resizable.specs.Growth.{OfSegment, AllocatesHere, AllocatesBy, AllocatesAfter, Allocates, TakesBack, growth_plan, hint_or_error, may_help, grows, made_segment, next_handle, grown_contents, grown_memory, with_chunk, after_return, returned_contents}
-use Rattle.cal_resizable.specs.Memory.{MemoryState, IsSoundMemory, HasAll, HoldsAll, NamesAll, KeepsOwn, segment_path}
-use Rattle.cal_resizable.specs.Slots.{Handle, Slots, HeldSegment, segment_at, with_more, with_less, count_in, count_at, without_unused, with_segment, after_retiring, EachHeld, EachHandle, IsHeldId, LeavesHandle, SparesHandles}
+use Rattle.cal_resizable.specs.Growth.{AllocatesHere, AllocatesBy, AllocatesAfter, Allocates, TakesBack, hint_or_error, may_help, grows, made_segment, next_handle, grown_contents, grown_memory, after_return, returned_contents}
+use Rattle.cal_resizable.specs.Memory.{MemoryState, IsSoundMemory, KeepsOwn, segment_path}
+use Rattle.cal_resizable.specs.Slots.{Handle, Slots, HeldSegment, segment_at, with_more, with_less, count_in, count_at, without_unused, after_retiring, EachHeld, IsHeldId, LeavesHandle, SparesHandles}
 use Rattle.cal_resizable.specs.Together.{AllFinished, ShareSegments, NoneLater, AreTogether}
-use Rattle.cal_resizable.specs.View.{View, IsView, HasView}
-use Rattle.cal_resizable.specs.View as view_paths
+use Rattle.cal_resizable.specs.View.{View, HasView}
 use Rattle.cal_resizable.specs.declared.errors.ResizableShmAllocationError.{ResizableShmAllocationError}
 use Rattle.cal_resizable.specs.declared.errors.ResizableShmAllocationError.TheVariants as error
 use Rattle.cal_resizable.proofs.FinishedLemmas.{AllFinished-with_value, AllFinished-after_creation, AllFinished-after_retiring, none-after_retiring}
 use Rattle.cal_resizable.proofs.GrowthLemmas.{not_new}
 use Rattle.cal_resizable.proofs.GuestLemmas.{same_paths}
-use Rattle.cal_resizable.proofs.KeepingLemmas.{was_held-current, was_held-less, kept_there, IsSoundMemory-more, IsSoundMemory-return, some_and}
+use Rattle.cal_resizable.proofs.KeepingLemmas.{was_held-current, was_held-less, kept_there, IsSoundMemory-more, IsSoundMemory-return}
 use Rattle.cal_resizable.proofs.LeavingLemmas.{LeavesHandle-with_value}
 use Rattle.cal_resizable.proofs.MemoryLemmas.{WasHeld, kept_here, IsSoundMemory-grown}
-use Rattle.cal_resizable.proofs.SharingLemmas.{same_path, same_management_path, same_number}
+use Rattle.cal_resizable.proofs.SharingLemmas.{same_path, same_number}
 use Rattle.cal_resizable.proofs.SlotLemmas.{segment_at-set-other, within_slots}
 use Rattle.cal_resizable.proofs.TogetherLemmas.{guests_of}
 use Rattle.cal_resizable.proofs.ViewSlotLemmas.{HasPaths, HasPaths-view, management_path-apart, segment_path-apart}

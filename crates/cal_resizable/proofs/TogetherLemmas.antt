@@ -1,29 +1,27 @@
 -- That a memory and a view of it stay together over the view's calls.
-use Rattle.std.proofs.Common.{◌≡◌, ◌≢◌, ℕ, ◌+◌, ◌<◌, ◌≤◌, ◌^◌, ◌⊎◌, Bool, false, Option, Some, None, IsSome, IsSomeAnd, is_some, if◌then◌else◌, List, length, option_map, refl, sym, ap, ◌∙◌, subst, inl, inr, arith}
+use Rattle.std.proofs.Common.{◌≡◌, ◌≢◌, ℕ, ◌<◌, ◌≤◌, ◌⊎◌, Bool, false, Option, Some, None, IsSome, IsSomeAnd, is_some, if◌then◌else◌, length, option_map, refl, sym, ap, ◌∙◌, subst, inl, inr, arith}
 use Rattle.std.specs.Option.{option_and_then}
 use Rattle.std.proofs.lemmas.Bool.{cases_eq}
-use Rattle.std.proofs.lemmas.List.{length-set}
-use Rattle.std.proofs.lemmas.Option.{none-some, same_Some}
+use Rattle.std.proofs.lemmas.Option.{same_Some}
 use Rattle.cal_storage.specs.declared.entry.Entry.{Entry}
-use Rattle.cal_storage.specs.Contents.{Contents, Has, id_at, entry_of, entry_at, found_handle, after_opening}
+use Rattle.cal_storage.specs.Contents.{Contents, Has, id_at, entry_of, found_handle, after_opening}
 use Rattle.cal_storage.specs.ContentsLaws.{one_holder_more}
 use Rattle.cal_storage.specs.EntryLemmas.{after_opening-ChangesEntry}
 use Rattle.cal_storage.specs.HandleLemmas.{has_entry}
-use Rattle.cal_storage.specs.Holding.{HasHolders, Holds}
-use Rattle.cal_storage.specs.HoldingLemmas.{KeepsHandles-after_opening}
+use Rattle.cal_storage.specs.Holding.{Holds}
 use Rattle.cal_shm.specs.Segment.{Segment}
 use Rattle.cal_resizable.specs.Chunks.{value_in, segment_value}
-use Rattle.cal_resizable.specs.Memory.{MemoryState, IsSoundMemory, HasAll, HoldsAll, NamesAll}
-use Rattle.cal_resizable.specs.Slots.{Handle, Slots, HeldSegment, segment_at, with_more, with_less, counted_less, EachHeld, EachHandle, AreApart, LeavesHandle}
-use Rattle.cal_resizable.specs.Together.{AllFinished, ShareSegments, AreTogether}
-use Rattle.cal_resizable.specs.View.{View, IsView, HasView, segment_path, with_found, without_unused_of, leaving_of, mapping, registering, unregistering, view_after_arrival, registry_after_arrival, registry_after_return, after_mapping, after_retiring_of, arrival_refusal}
+use Rattle.cal_resizable.specs.Memory.{MemoryState, HoldsAll}
+use Rattle.cal_resizable.specs.Slots.{Handle, Slots, HeldSegment, segment_at, with_more, with_less, EachHeld, AreApart, LeavesHandle}
+use Rattle.cal_resizable.specs.Together.{ShareSegments, AreTogether}
+use Rattle.cal_resizable.specs.View.{View, IsView, HasView, segment_path, with_found, leaving_of, mapping, registering, unregistering, view_after_arrival, registry_after_arrival, after_mapping, after_retiring_of, arrival_refusal}
 use Rattle.cal_resizable.proofs.FinishedLemmas.{AllFinished-after_opening}
 use Rattle.cal_resizable.proofs.MemoryLemmas.{some_is}
 use Rattle.cal_resizable.proofs.SharingLemmas.{same_path, share-from, retired_names, retired_finished, retired_HasAll, retired_HoldsAll, retired_NamesAll, retired_values, retired_has_view, retired_share}
 use Rattle.cal_resizable.proofs.SlotLemmas.{within_slots}
 use Rattle.cal_resizable.proofs.ViewLawLemmas.{sound_arrival}
-use Rattle.cal_resizable.proofs.ViewLemmas.{LeavesHandle-after_opening, view-AreApart, fewer_view, fewer-HasPaths, fewer-HasView, registering-HasView}
-use Rattle.cal_resizable.proofs.ViewSlotLemmas.{ComesFrom, HasPaths, HasPaths-view, path_in, fresh, both-length, both-lookup, mapped-here, mapped-lookup, mapping-IsView, registering-IsView, unregistering-IsView, with_more-ComesFrom, with_less-ComesFrom, held-within, is_some-within, less-retired-within, less-lookup}
+use Rattle.cal_resizable.proofs.ViewLemmas.{LeavesHandle-after_opening, view-AreApart, fewer-HasPaths, fewer-HasView, registering-HasView}
+use Rattle.cal_resizable.proofs.ViewSlotLemmas.{ComesFrom, HasPaths, path_in, fresh, both-length, both-lookup, mapped-here, mapped-lookup, mapping-IsView, registering-IsView, unregistering-IsView, with_more-ComesFrom, with_less-ComesFrom, held-within, is_some-within, less-retired-within, less-lookup}
 
 -- the handles of a view don't own their names
 pub guests_of : (view : View) → IsView view → EachHeld view.slots (λ number held. held.handle.is_owner ≡ false)

@@ -56,7 +56,8 @@ module _ {T : Type 0} (contents : Contents T) (view : View) (is : HasPaths view)
   }
 
   pub view-AreApart : AreApart view.slots
-  view-AreApart first second one other apart at_first at_second = view-ids first second one other at_first at_second apart
+  view-AreApart first second one other apart at_first at_second = view-ids first second one other at_first at_second
+      apart
 
   -- the segment of a number, if one is given, is given up where it isn't counted
   module _ (new : Contents T) (retired : Option ℕ) (within : (n : ℕ) → retired ≡ Some n → n < length view.slots)
@@ -112,7 +113,8 @@ SparesHandles-same contents before after =
 pub LeavesHandle-after_opening : {T : Type 0} (contents : Contents T) (id : ℕ) (handle : Handle) →
     LeavesHandle contents (after_opening contents id) handle
 LeavesHandle-after_opening {T = T} contents id handle = record {
-  has = λ has. Has-ChangesEntry contents (after_opening contents id) handle has id (one_holder_more {T = T}) (λ entry. refl)
+  has = λ has. Has-ChangesEntry contents (after_opening contents id) handle has id (one_holder_more {T = T})
+      (λ entry. refl)
       (after_opening-ChangesEntry contents id);
   holds = λ count some small holds. KeepsHandles-after_opening contents id count handle some small holds;
   named = λ named. named;

@@ -119,7 +119,8 @@ module _ (slots : Slots) (n : ℕ) (within : n < length slots) where
         ap (λ t. segment_at (if t then without_segment slots n else slots) m) (sym some) ∙ there in (
           stays,
           λ same none. true≢false
-              (sym (eq-eqb (count_at slots n) 0 (ap count_in (ap (segment_at slots) (sym same) ∙ stays) ∙ none)) ∙ some),
+              (sym (eq-eqb (count_at slots n) 0 (ap count_in (ap (segment_at slots) (sym same) ∙ stays) ∙ none))
+              ∙ some),
         )
   ]
 
@@ -348,7 +349,8 @@ HasPaths-from view is slots long from = record {
 pub with_more-any : (slots : Slots) (n : ℕ) → n < length slots →
     (segment_at slots n ≡ None) → with_more slots n ≡ slots
 with_more-any slots n within none =
-    ap (λ slot. slice_set slots n (counted_more slot)) none ∙ ap (slice_set slots n) (sym none) ∙ set-get_or slots n None
+    ap (λ slot. slice_set slots n (counted_more slot)) none ∙ ap (slice_set slots n) (sym none)
+    ∙ set-get_or slots n None
 
 pub registered-IsView : (view : View) → IsView view → (number : ℕ) → number < 256 → (later : Slots) →
     later ≡ with_more view.slots number → IsView (record view { slots = later })

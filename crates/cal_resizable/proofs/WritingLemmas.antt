@@ -1,6 +1,6 @@
 -- That chunks which are out stay so while bytes are written, and that they can come back.
-use Rattle.std.proofs.Common.{◌≡◌, ◌≢◌, ℕ, ◌+◌, ◌-◌, ◌<◌, ◌≤◌, Option, Some, None, IsSomeAnd, Result, Ok, Err, IfOk, List, [], ◌∷◌, ◌++◌, length, take, drop, min, replicate, option_map, refl, sym, ap, ◌∙◌, subst, inl, inr, arith}
-use Rattle.std.specs.List.{AllByRecursion, slice_get}
+use Rattle.std.proofs.Common.{◌≡◌, ◌≢◌, ℕ, ◌+◌, ◌<◌, ◌≤◌, Option, Some, None, IsSomeAnd, List, [], ◌++◌, length, take, drop, option_map, refl, sym, ap, ◌∙◌, subst, inl, inr, arith}
+use Rattle.std.specs.List.{slice_get}
 use Rattle.std.proofs.lemmas.Bool.{cases_eq}
 use Rattle.std.proofs.lemmas.List.{length-append, length-drop, length-take}
 use Rattle.std.proofs.lemmas.Option.{none-some}
@@ -13,8 +13,8 @@ use Rattle.cal_storage.specs.HoldingLemmas.{value-with_value}
 use Rattle.cal_storage.specs.ValueLemmas.{value_of-with_value-other}
 use Rattle.cal_shm.specs.Calls.{IsInPayload, with_written, with_written_in}
 use Rattle.cal_shm.specs.Segment.{Segment, overwritten, with_bytes}
-use Rattle.cal_resizable.specs.Chunks.{Chunk, value_in, segment_value, IsOut, AreOut}
-use Rattle.cal_resizable.specs.Creation.{MemoryPlan, MakesMemory, memory_of}
+use Rattle.cal_resizable.specs.Chunks.{Chunk, value_in, IsOut, AreOut}
+use Rattle.cal_resizable.specs.Creation.{MemoryPlan, memory_of}
 use Rattle.cal_resizable.specs.Growth.{OfSegment}
 use Rattle.cal_resizable.specs.Memory.{MemoryState}
 use Rattle.cal_resizable.specs.Slots.{Handle, Slots, HeldSegment, segment_at, count_in, count_at, empty_slots, with_segment}
@@ -83,16 +83,19 @@ module _ {A : Type 0} (contents : Contents (Segment A)) (id offset : ℕ) (writt
 module _ {A C : Type 0} (rules : shm_allocator.Ghosts A C) where
   pub AreOut-written : (contents : Contents (Segment A)) (slots : Slots) (id offset : ℕ) (written : List ℕ)
       (chunks : List Chunk) → AreOut rules.properties rules.IsByteUsed rules.IsAllocated contents slots chunks →
-      AreOut rules.properties rules.IsByteUsed rules.IsAllocated (with_written with_bytes contents id offset written) slots chunks
+      AreOut rules.properties rules.IsByteUsed rules.IsAllocated (with_written with_bytes contents id offset written)
+      slots chunks
   AreOut-written contents slots id offset written chunks out = record {
     each = all-map (IsOut rules.properties rules.IsByteUsed rules.IsAllocated contents slots)
-        (IsOut rules.properties rules.IsByteUsed rules.IsAllocated (with_written with_bytes contents id offset written) slots) chunks still out.each;
+        (IsOut rules.properties rules.IsByteUsed rules.IsAllocated (with_written with_bytes contents id offset written)
+        slots) chunks still out.each;
     apart = out.apart;
     counted = out.counted;
   }
     where
       still : (chunk : Chunk) → IsOut rules.properties rules.IsByteUsed rules.IsAllocated contents slots chunk →
-          IsOut rules.properties rules.IsByteUsed rules.IsAllocated (with_written with_bytes contents id offset written) slots chunk
+          IsOut rules.properties rules.IsByteUsed rules.IsAllocated (with_written with_bytes contents id offset written)
+          slots chunk
       still chunk was =
           let is = alike contents id offset written was.segment (segment_at slots (segment_of chunk.pointer))
           was.there in
@@ -112,14 +115,17 @@ module _ {A C : Type 0} (rules : shm_allocator.Ghosts A C) where
 
   -- ---- a chunk that is out can come back
   module _ (contents : Contents (Segment A)) (slots : Slots) (chunks : List Chunk) (index : ℕ) (chunk : Chunk)
-      (at : slice_get chunks index ≡ Some chunk) (out : AreOut rules.properties rules.IsByteUsed rules.IsAllocated contents slots chunks) where
+      (at : slice_get chunks index ≡ Some chunk) (out : AreOut rules.properties rules.IsByteUsed rules.IsAllocated
+      contents slots chunks) where
     pub out_counted : 0 < count_at slots (segment_of chunk.pointer)
     out_counted = omega (arith, counted-at chunks index chunk at, out.counted (segment_of chunk.pointer))
 
     pub out_allocated : OfSegment contents slots (segment_of chunk.pointer)
         (λ segment. rules.IsAllocated segment.allocator (pointer_offset (offset_of chunk.pointer) 0))
     out_allocated =
-        let is : IsOut rules.properties rules.IsByteUsed rules.IsAllocated contents slots chunk = all-at (IsOut rules.properties rules.IsByteUsed rules.IsAllocated contents slots) chunks index chunk at out.each in
+        let is : IsOut rules.properties rules.IsByteUsed rules.IsAllocated contents slots chunk =
+        all-at (IsOut rules.properties rules.IsByteUsed rules.IsAllocated contents slots) chunks index chunk at
+        out.each in
         value_of-segment contents slots (segment_of chunk.pointer)
         (λ segment. rules.IsAllocated segment.allocator (pointer_offset (offset_of chunk.pointer) 0)) is.segment
         is.there is.allocated
@@ -128,7 +134,9 @@ module _ {A C : Type 0} (rules : shm_allocator.Ghosts A C) where
         OfSegment contents slots (segment_of chunk.pointer)
         (λ segment. IsInPayload segment.payload (offset_of chunk.pointer) count)
     out_within count fits =
-        let is : IsOut rules.properties rules.IsByteUsed rules.IsAllocated contents slots chunk = all-at (IsOut rules.properties rules.IsByteUsed rules.IsAllocated contents slots) chunks index chunk at out.each in
+        let is : IsOut rules.properties rules.IsByteUsed rules.IsAllocated contents slots chunk =
+        all-at (IsOut rules.properties rules.IsByteUsed rules.IsAllocated contents slots) chunks index chunk at
+        out.each in
         value_of-segment contents slots (segment_of chunk.pointer)
         (λ segment. IsInPayload segment.payload (offset_of chunk.pointer) count) is.segment is.there
         (omega (arith, is.within, is.large, fits))
@@ -147,7 +155,8 @@ module _ {A C : Type 0} (rules : shm_allocator.Ghosts A C) where
   ]
 
   pub none_out : (contents : Contents (Segment A)) (plan : MemoryPlan) (management first : Handle)
-      (memory : MemoryState) → memory ≡ memory_of plan management first → AreOut rules.properties rules.IsByteUsed rules.IsAllocated contents memory.slots []
+      (memory : MemoryState) → memory ≡ memory_of plan management first → AreOut rules.properties rules.IsByteUsed
+      rules.IsAllocated contents memory.slots []
   none_out contents plan management first memory is = record {
     each = tt;
     apart = tt;

@@ -53,8 +53,8 @@ module _ {T : Type 0} where
   abbrev pub segment_value : Contents T → Slots → ℕ → Option T
   segment_value contents slots number = value_in contents (segment_at slots number)
 
-  -- Every segment but that of a number is left as it is: the same is held under each other number, as often counted, and
-  -- has the value that it had.
+  -- Every segment but that of a number is left as it is: the same is held under each other number, as often counted,
+  -- and has the value that it had.
   pub record LeavesSegments (old : Contents T) (before : Slots) (number : ℕ) (new : Contents T) (after : Slots) :
       Type 0 where
     pub slots : (other : ℕ) → other ≢ number → segment_at after other ≡ segment_at before other
@@ -100,8 +100,8 @@ module _ {A C : Type 0} (rules : shm_allocator.Ghosts A C) where
 
 -- of an allocator: what it has beside its chunks, which bytes are taken, and at which pointers a chunk is out
 module _ {A : Type 0} (properties : A → Properties) (IsByteUsed IsAllocated : A → ℕ → Type 0) where
-  -- A chunk is out: its segment is active and has handed it out, it isn't empty, it is as large as was asked for at least,
-  -- all its bytes are taken, and they lie within the payload.
+  -- A chunk is out: its segment is active and has handed it out, it isn't empty, it is as large as was asked for at
+  -- least, all its bytes are taken, and they lie within the payload.
   pub record IsOut (contents : Contents (Segment A)) (slots : Slots) (chunk : Chunk) : Type 0 where
     pub segment : Segment A
     pub there : segment_value contents slots (segment_of chunk.pointer) ≡ Some segment
@@ -118,8 +118,8 @@ module _ {A : Type 0} (properties : A → Properties) (IsByteUsed IsAllocated : 
     pub apart : NoneOverlap chunks
     pub counted : (number : ℕ) → count_at slots number ≡ number_within number chunks
 
-  -- A chunk of a layout was handed out at a pointer, of this size in its segment: with any chunks that were out it is out
-  -- then, and each of them is out still.
+  -- A chunk of a layout was handed out at a pointer, of this size in its segment: with any chunks that were out it is
+  -- out then, and each of them is out still.
   abbrev pub AddsSized : Contents (Segment A) → Slots → SizeAndAlignment → ℕ → Contents (Segment A) → Slots → Type 0
   AddsSized old before layout pointer new after =
       (size : ℕ) (chunks : List Chunk) (segment : Segment A) →
@@ -127,8 +127,8 @@ module _ {A : Type 0} (properties : A → Properties) (IsByteUsed IsAllocated : 
       chunk_size (properties segment.allocator) layout ≡ size → 0 < size → layout.size ≤ size →
       AreOut old before chunks → AreOut new after (record { pointer = pointer; layout = layout; size = size } ∷ chunks)
 
-  -- A chunk of a layout was handed out at a pointer: where it was asked for a byte at least it is out then, with any chunks
-  -- that were out, and each of them is out still.
+  -- A chunk of a layout was handed out at a pointer: where it was asked for a byte at least it is out then, with any
+  -- chunks that were out, and each of them is out still.
   abbrev pub AddsChunk : Contents (Segment A) → Slots → SizeAndAlignment → ℕ → Contents (Segment A) → Slots → Type 0
   AddsChunk old before layout pointer new after =
       (chunks : List Chunk) → 0 < layout.size → AreOut old before chunks →

@@ -39,8 +39,8 @@ grows BestFit = true
 grows PowerOfTwo = true
 grows Static = false
 
--- how many buckets the next segment has that an allocation of a layout would make: none where the pool of the current one
--- serves the layout, where memory of this strategy doesn't grow, or where no further segment can be
+-- how many buckets the next segment has that an allocation of a layout would make: none where the pool of the current
+-- one serves the layout, where memory of this strategy doesn't grow, or where no further segment can be
 abbrev pub next_number_of_buckets : AllocationStrategy → ℕ → SizeAndAlignment → Pool → Option ℕ
 next_number_of_buckets strategy current layout pool =
     if is_some (pool_refusal pool layout) && (grows strategy && not (current == 255))
@@ -139,8 +139,8 @@ module _ {A C : Type 0} (rules : allocator.Ghosts A C) where
       after_retiring (after_creation contents (segment_path memory.settings memory.name (memory.current + 1))
       (made_segment hint) finished_version) (segment_at memory.slots memory.current)
 
-  -- The current segment hands out a chunk of a layout: its allocator gives it, the pointer carries the segment's number,
-  -- and the segment has one chunk more.
+  -- The current segment hands out a chunk of a layout: its allocator gives it, the pointer carries the segment's
+  -- number, and the segment has one chunk more.
   pub record AllocatesHere (old : Contents (Segment A)) (before : MemoryState) (layout : SizeAndAlignment)
       (pointer : ℕ) (new : Contents (Segment A)) (after : MemoryState) : Type 0 where
     pub chunk : ℕ

@@ -9,8 +9,8 @@ use Rattle.cal_storage.specs.Refusals.{is_too_long}
 use Rattle.cal_resizable.specs.SegmentNames.{number_end}
 use Rattle.cal_resizable.specs.Slots.{Handle, Slots, HeldSegment, segment_at, AreApart, EachHeld, EachHandle}
 
--- the name, what makes the paths of the segments, how the memory grows, the handle of the management segment, the number
--- of the current segment, and the active segments, each counted once for each chunk of it that is out
+-- the name, what makes the paths of the segments, how the memory grows, the handle of the management segment, the
+-- number of the current segment, and the active segments, each counted once for each chunk of it that is out
 pub record MemoryState : Type 0 where
   pub name : List ℕ
   pub settings : ConceptSettings
@@ -26,9 +26,9 @@ segment_path settings name number = file_path_for settings (name ++ number_end n
 abbrev pub management_path : ConceptSettings → List ℕ → List ℕ
 management_path settings name = file_path_for settings (name ++ codes "__mgmt")
 
--- An active segment of that number, of a memory with these settings, this name, this management segment and this current
--- number: no later segment is active, an earlier one has a chunk, the memory owns it, it has the path of its number, and
--- it isn't the management segment.
+-- An active segment of that number, of a memory with these settings, this name, this management segment and this
+-- current number: no later segment is active, an earlier one has a chunk, the memory owns it, it has the path of its
+-- number, and it isn't the management segment.
 pub record IsActive (settings : ConceptSettings) (name : List ℕ) (management current number : ℕ) (held : HeldSegment) :
     Type 0 where
   pub not_later : number ≤ current

@@ -140,7 +140,8 @@ pub segment_of_name-again : (base : List ℕ) (n : ℕ) → IsFileName base → 
     segment_of_name (base ++ number_end n) ≡ Some (base, n)
 segment_of_name-again base n rule small =
     ap (option_and_then segment_of_cut) (cut_at_last-joined base (decimal n) (decimal-Lacks n small))
-    ∙ ap (option_and_then (λ b. option_map (λ number. (b, number)) (number_of (decimal n)))) (as_file_name_yes base rule)
+    ∙ ap (option_and_then (λ b. option_map (λ number. (b, number)) (number_of (decimal n))))
+    (as_file_name_yes base rule)
     ∙ ap (option_map (λ number. (base, number))) (number_of-decimal n small)
 
 abbrev with_base : List ℕ → Option (List ℕ × ℕ)

@@ -26,8 +26,8 @@ module _ {T : Type 0} where
       (number : ℕ) → memory.current < number → number < 256 →
       id_at contents (segment_path memory.settings memory.name number) ≡ None
 
-  -- The registry has the entries of a memory, which no view has opened yet. It counts a holder for each, and their paths
-  -- stand for them. Every entry is finished, and no path of a segment that is still to come stands for anything.
+  -- The registry has the entries of a memory, which no view has opened yet. It counts a holder for each, and their
+  -- paths stand for them. Every entry is finished, and no path of a segment that is still to come stands for anything.
   pub record IsAlone (contents : Contents T) (memory : MemoryState) : Type 0 where
     pub sound : IsSoundMemory memory
     pub has : HasAll contents memory
@@ -37,8 +37,8 @@ module _ {T : Type 0} where
     pub later : NoneLater contents memory
 
   -- The registry has the entries of a memory and of a view of it. It counts a holder for each of the memory's, and the
-  -- paths of these stand for them; what both have they share. Every entry is finished. No path of a segment that is still
-  -- to come stands for anything, and the view has none.
+  -- paths of these stand for them; what both have they share. Every entry is finished. No path of a segment that is
+  -- still to come stands for anything, and the view has none.
   pub record AreTogether (contents : Contents T) (memory : MemoryState) (view : View) : Type 0 where
     pub memory_sound : IsSoundMemory memory
     pub view_sound : IsView view

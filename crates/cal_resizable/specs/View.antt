@@ -80,8 +80,8 @@ without_unused_of slots (Some number) = without_unused slots number
 abbrev pub with_found : View → ℕ → ℕ → Slots
 with_found view number id = with_segment view.slots number (found_handle (segment_path view number) id)
 
--- A view that maps the segment of a number too, for whose path an id was found. The segment is the current one then, and
--- the former current one is unmapped where no offset is registered in it.
+-- A view that maps the segment of a number too, for whose path an id was found. The segment is the current one then,
+-- and the former current one is unmapped where no offset is registered in it.
 abbrev pub mapping : View → ℕ → Option ℕ → View
 mapping view number None = view
 mapping view number (Some id) = record view {

@@ -42,7 +42,8 @@ pub fn a_chunk_stays_out<A: ShmAllocator>()
         AddsSized A.properties A.IsByteUsed A.IsAllocated old before layout pointer new after }
     ensures grown { (old new : Contents (Segment A)) (before after : MemoryState) (made : Segment A)
         (chunks : List Chunk) → GrowsTo old before made new after →
-        AreOut A.properties A.IsByteUsed A.IsAllocated old before.slots chunks → AreOut A.properties A.IsByteUsed A.IsAllocated new after.slots chunks }
+        AreOut A.properties A.IsByteUsed A.IsAllocated old before.slots chunks → AreOut A.properties A.IsByteUsed
+        A.IsAllocated new after.slots chunks }
     ensures returned { (old new : Contents (Segment A)) (before after : Slots) (pointer : ℕ) →
         ReturnsChunk (λ was is. A.Deallocates was (pointer_offset (offset_of pointer) 0) is) old before
         (segment_of pointer) new after →
@@ -54,10 +55,12 @@ pub fn a_chunk_stays_out<A: ShmAllocator>()
 pub fn a_chunk_stays_out_elsewhere<A: ShmAllocator>()
     ensures written { (contents : Contents (Segment A)) (slots : Slots) (id offset : ℕ) (written : List ℕ)
         (chunks : List Chunk) → AreOut A.properties A.IsByteUsed A.IsAllocated contents slots chunks →
-        AreOut A.properties A.IsByteUsed A.IsAllocated (with_written with_bytes contents id offset written) slots chunks }
+        AreOut A.properties A.IsByteUsed A.IsAllocated (with_written with_bytes contents id offset written) slots
+        chunks }
     ensures elsewhere { (old new : Contents (Segment A)) (slots : Slots) (chunks : List Chunk) →
         ((number : ℕ) → segment_value new slots number ≡ segment_value old slots number) →
-        AreOut A.properties A.IsByteUsed A.IsAllocated old slots chunks → AreOut A.properties A.IsByteUsed A.IsAllocated new slots chunks }
+        AreOut A.properties A.IsByteUsed A.IsAllocated old slots chunks → AreOut A.properties A.IsByteUsed A.IsAllocated
+        new slots chunks }
 {}
 
 /// A chunk that is out can be read and written, as many bytes as were asked for, and can be given back.
@@ -68,10 +71,12 @@ pub fn a_chunk_that_is_out_can_be_used<A: ShmAllocator>()
         OfSegment contents slots (segment_of chunk.pointer)
         (λ segment. IsInPayload segment.payload (offset_of chunk.pointer) count) }
     ensures counted { (contents : Contents (Segment A)) (slots : Slots) (chunks : List Chunk) (index : ℕ)
-        (chunk : Chunk) → slice_get chunks index ≡ Some chunk → AreOut A.properties A.IsByteUsed A.IsAllocated contents slots chunks →
+        (chunk : Chunk) → slice_get chunks index ≡ Some chunk → AreOut A.properties A.IsByteUsed A.IsAllocated contents
+        slots chunks →
         0 < count_at slots (segment_of chunk.pointer) }
     ensures allocated { (contents : Contents (Segment A)) (slots : Slots) (chunks : List Chunk) (index : ℕ)
-        (chunk : Chunk) → slice_get chunks index ≡ Some chunk → AreOut A.properties A.IsByteUsed A.IsAllocated contents slots chunks →
+        (chunk : Chunk) → slice_get chunks index ≡ Some chunk → AreOut A.properties A.IsByteUsed A.IsAllocated contents
+        slots chunks →
         OfSegment contents slots (segment_of chunk.pointer)
         (λ segment. A.IsAllocated segment.allocator (pointer_offset (offset_of chunk.pointer) 0)) }
 {}

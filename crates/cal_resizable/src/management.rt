@@ -210,6 +210,3 @@ fn is_name(found: Option<FileName>, name: &FileName) -> bool
         None => false,
     }
 }
-
-#[cfg(test)]
-mod tests;

@@ -302,7 +302,8 @@ impl<A: ShmAllocator, Shm: SharedMemory<A>> DynamicMemory<A, Shm> {
         ensures counted { OnOk result
             (count_at self.new.slots self.new.current ≤ count_at self.old.slots self.old.current + 1) }
         ensures stays_out { IfOk result (λ pointer.
-            AddsChunk A.properties A.IsByteUsed A.IsAllocated reg.old self.old.slots layout pointer.offset reg.new self.new.slots) }
+            AddsChunk A.properties A.IsByteUsed A.IsAllocated reg.old self.old.slots layout pointer.offset reg.new
+            self.new.slots) }
         ensures serves { OnErr result (OfSegment reg.old self.old.slots self.old.current
             (λ segment. IsSome (A.refusal segment.allocator layout))) }
         ensures own { OnOk result (KeepsOwn reg.old self.old reg.new self.new) }
@@ -327,8 +328,8 @@ impl<A: ShmAllocator, Shm: SharedMemory<A>> DynamicMemory<A, Shm> {
         }
     }
 
-    /// Takes back the chunk at that offset, which was handed out and not taken back yet. Each other chunk that is out is
-    /// out still. A segment that isn't the current one goes with its last chunk.
+    /// Takes back the chunk at that offset, which was handed out and not taken back yet. Each other chunk that is out
+    /// is out still. A segment that isn't the current one goes with its last chunk.
     pub fn deallocate(
         &mut self,
         reg: &mut Registry<AllocatorDetails<A>>,
@@ -341,7 +342,8 @@ impl<A: ShmAllocator, Shm: SharedMemory<A>> DynamicMemory<A, Shm> {
             (λ segment. A.IsAllocated segment.allocator (pointer_offset (offset_of offset) 0)) }
         ensures freed { TakesBack (λ was is. A.Deallocates was (pointer_offset (offset_of offset) 0) is)
             reg.old self.old (segment_of offset) reg.new self.new }
-        ensures stays_out { RemovesChunk A.properties A.IsByteUsed A.IsAllocated reg.old self.old.slots offset reg.new self.new.slots }
+        ensures stays_out { RemovesChunk A.properties A.IsByteUsed A.IsAllocated reg.old self.old.slots offset reg.new
+            self.new.slots }
         ensures own { KeepsOwn reg.old self.old reg.new self.new }
         ensures spares { SparesHandles reg.old reg.new self.old.slots self.new.slots }
     {
@@ -429,8 +431,8 @@ impl<Shm: SharedMemoryForPoolAllocator> DynamicMemory<PoolAllocator, Shm> {
             .number_of_buckets()
     }
 
-    /// The number of buckets of the segment that an allocation of this layout would make; none where the current segment
-    /// serves the layout, or where the memory doesn't grow for it.
+    /// The number of buckets of the segment that an allocation of this layout would make; none where the current
+    /// segment serves the layout, or where the memory doesn't grow for it.
     pub fn next_number_of_buckets(
         &self,
         reg: &Registry<AllocatorDetails<PoolAllocator>>,

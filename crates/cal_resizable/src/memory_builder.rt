@@ -122,7 +122,8 @@ impl<A: ShmAllocator, Shm: SharedMemory<A>> DynamicMemoryBuilder<A, Shm> {
             ⊎ (error ≡ SharedMemoryCreateError.NoMemory)) }
         ensures created { IfOk result (CreatesMemory A.ShmAllocator.own reg.old self reg.new) }
         ensures empty { IfOk result (λ memory. count_at memory.slots memory.current ≡ 0) }
-        ensures none_out { IfOk result (λ memory. AreOut A.properties A.IsByteUsed A.IsAllocated reg.new memory.slots []) }
+        ensures none_out { IfOk result (λ memory. AreOut A.properties A.IsByteUsed A.IsAllocated reg.new memory.slots
+            []) }
         ensures has { IfOk result (HasAll reg.new) }
         ensures holds { IfOk result (HoldsAll reg.new) }
         ensures names { IfOk result (NamesAll reg.new) }

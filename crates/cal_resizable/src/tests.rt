@@ -1,6 +1,7 @@
-//! Worked examples through the public calls.
+//! Worked examples through the public calls, over any allocator and storage: contracts over one allocator and one
+//! storage take far longer to prove.
 
-mod creation;
 mod fixtures;
 mod growth;
+mod refusals;
 mod segments;

@@ -96,8 +96,8 @@ impl<A: ShmAllocator, Shm: SharedMemory<A>> DynamicView<A, Shm> {
         }
     }
 
-    /// Closes the management segment, and then each mapped segment in the order of their numbers. Every handle on another
-    /// entry is left, and of the holders of a segment one is lost.
+    /// Closes the management segment, and then each mapped segment in the order of their numbers. Every handle on
+    /// another entry is left, and of the holders of a segment one is lost.
     pub fn close(self, reg: &mut Registry<AllocatorDetails<A>>)
         requires there { HasView reg.old self }
         ensures closed { reg.new ≡ after_closing reg.old (self.management ∷ held_handles self.slots) }

@@ -63,9 +63,9 @@ impl<A: ShmAllocator, Shm: SharedMemory<A>> DynamicViewBuilder<A, Shm> {
         self
     }
 
-    /// Takes the room for as many segments as there can be, and then opens the management segment of the memory; none is
-    /// mapped yet. `PathTooLong` comes first, where the name of the management segment is no file name; then `NoMemory`,
-    /// where the room isn't there; then what refuses the opening. After an error the registry is as it was.
+    /// Takes the room for as many segments as there can be, and then opens the management segment of the memory; none
+    /// is mapped yet. `PathTooLong` comes first, where the name of the management segment is no file name; then
+    /// `NoMemory`, where the room isn't there; then what refuses the opening. After an error the registry is as it was.
     pub fn open(
         self,
         alloc: Global,

@@ -31,7 +31,6 @@ pub mod StateOf
 pub mod Sharing
 pub mod Pointed
 pub mod CommandsDo
-pub mod StateOf
 pub mod Opening
 pub mod Room
 pub mod Served

@@ -1,9 +1,9 @@
 //! Calls of both ends of a connection that look first whether their conditions hold, for the tests.
-ghost use Rattle.std.specs.Prelude.{◌≡◌, true, IfOk};
+ghost use Rattle.std.specs.Prelude.{IfOk};
 ghost use Rattle.cal_storage.specs.Holding.{Holds};
 ghost use Rattle.cal_connection.specs.Ends.{AreOpen};
-ghost use Rattle.cal_connection.specs.Port.{IsSendable};
 
+use crate::calls::may_send;
 use crate::{
     Builder, ChannelId, Receiver, Sender, SharedManagementData, ZeroCopyConnectionBuilder,
     ZeroCopyPortDetails, ZeroCopyReceiveError, ZeroCopyReceiver, ZeroCopyReclaimError,
@@ -48,24 +48,6 @@ pub(crate) fn connect<S: DynamicStorage<SharedManagementData>>(
     let sender = sending.create_sender(alloc, reg)?;
     let receiver = receiving.create_receiver(alloc, reg)?;
     Ok((sender, receiver))
-}
-
-/// Whether an offset may be sent on a channel.
-fn may_send(
-    entry: &SharedManagementData,
-    ptr: PointerOffset,
-    sample_size: usize,
-    channel: usize,
-) -> bool
-    ensures sendable { result ≡ true → IsSendable entry.now channel ptr sample_size }
-{
-    let settings = entry.settings();
-    channel < settings.number_of_channels
-        && sample_size > 0
-        && ptr.offset() % sample_size == 0
-        && ptr.segment_id().value() < settings.number_of_segments
-        && ptr.offset() / sample_size < settings.number_of_samples
-        && !entry.is_in_use(ptr, sample_size, channel)
 }
 
 /// Sends an offset in bytes of a segment on a channel.

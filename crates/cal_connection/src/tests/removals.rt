@@ -37,7 +37,7 @@ fn the_sender_is_left<S: DynamicStorage<SharedManagementData>>(
     let mut reg = Registry::new(alloc);
     let ends = connect::<S>(alloc, &mut reg, builder()?, builder()?)?;
     let removed = Connection::<S>::remove_receiver(&mut reg, &name()?, &Configuration::default());
-    assert_eq!(rt; removed, Ok(()));
+    assert!(rt; matches!(removed, Ok(())));
     assert!(rt; is_alone(rt, &reg, &ends.0));
     Ok(())
 }
@@ -58,10 +58,10 @@ fn the_name_is_gone<S: DynamicStorage<SharedManagementData>>(
     let mut reg = Registry::new(alloc);
     let _sender = open_sender::<S>(alloc, &mut reg)?;
     let removed = Connection::<S>::remove_sender(&mut reg, &name, &config);
-    assert_eq!(rt; removed, Ok(()));
-    assert_eq!(rt; reg.len(), 0);
+    assert!(rt; matches!(removed, Ok(())));
+    assert!(rt; reg.len() == 0);
     let removed = Connection::<S>::remove_sender(&mut reg, &name, &config);
-    assert_eq!(rt; removed, Err(ZeroCopyPortRemoveError::DoesNotExist));
+    assert!(rt; matches!(removed, Err(ZeroCopyPortRemoveError::DoesNotExist)));
     Ok(())
 }
 
@@ -96,9 +96,9 @@ fn at_version(
 fn an_entry_of_another_version_is_left(rt: HostRuntime) -> Result<(), Fail> {
     let mut reg = Registry::new(rt.alloc());
     let (refused, removed) = at_version(rt.alloc(), &mut reg, 9002)?;
-    assert_eq!(rt; refused, Some(ZeroCopyCreationError::VersionMismatch));
-    assert_eq!(rt; removed, Err(ZeroCopyPortRemoveError::VersionMismatch));
-    assert_eq!(rt; reg.len(), 1);
+    assert!(rt; matches!(refused, Some(ZeroCopyCreationError::VersionMismatch)));
+    assert!(rt; matches!(removed, Err(ZeroCopyPortRemoveError::VersionMismatch)));
+    assert!(rt; reg.len() == 1);
     Ok(())
 }
 
@@ -106,11 +106,13 @@ fn an_entry_of_another_version_is_left(rt: HostRuntime) -> Result<(), Fail> {
 fn an_entry_that_is_being_made_loses_its_name(rt: HostRuntime) -> Result<(), Fail> {
     let mut reg = Registry::new(rt.alloc());
     let (refused, removed) = at_version(rt.alloc(), &mut reg, 0)?;
-    assert_eq!(rt;
-        refused,
-        Some(ZeroCopyCreationError::InitializationNotYetFinalized)
+    assert!(rt;
+        matches!(
+            refused,
+            Some(ZeroCopyCreationError::InitializationNotYetFinalized)
+        )
     );
-    assert_eq!(rt; removed, Ok(()));
-    assert_eq!(rt; reg.len(), 0);
+    assert!(rt; matches!(removed, Ok(())));
+    assert!(rt; reg.len() == 0);
     Ok(())
 }

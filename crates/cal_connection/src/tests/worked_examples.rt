@@ -29,8 +29,8 @@ fn pass<S: DynamicStorage<SharedManagementData>>(
     requires { AreOpen reg.old ends.old.0.handle ends.old.1.handle }
     ensures open { AreOpen reg.new ends.new.0.handle ends.new.1.handle }
 {
-    assert_eq!(rt; send(rt, reg, ends, ptr, 8, channel), Ok(None));
-    assert_eq!(rt; receive(rt, reg, ends, channel), Ok(Some(ptr)));
+    assert!(rt; matches!(send(rt, reg, ends, ptr, 8, channel), Ok(None)));
+    assert!(rt; receive(rt, reg, ends, channel) == Ok(Some(ptr)));
 }
 
 /// Releases an offset on channel 0, and tells what the sender gets when it reclaims twice.
@@ -43,7 +43,7 @@ fn reclaimed<S: DynamicStorage<SharedManagementData>>(
     requires { AreOpen reg.old ends.old.0.handle ends.old.1.handle }
     ensures open { AreOpen reg.new ends.new.0.handle ends.new.1.handle }
 {
-    assert_eq!(rt; release(rt, reg, ends, ptr, 0), Ok(()));
+    assert!(rt; matches!(release(rt, reg, ends, ptr, 0), Ok(())));
     let first = reclaim(rt, reg, ends, 0);
     [first, reclaim(rt, reg, ends, 0)]
 }
@@ -61,13 +61,13 @@ fn a_foreign_segment_is_refused<S: DynamicStorage<SharedManagementData>>(
         builder()?.number_of_channels(2),
     )?;
     let ptr = PointerOffset::new(0);
-    assert_eq!(rt; send(rt, &mut reg, &mut ends, ptr, 8, 1), Ok(None));
+    assert!(rt; matches!(send(rt, &mut reg, &mut ends, ptr, 8, 1), Ok(None)));
     pass(rt, &mut reg, &mut ends, ptr, 0);
     let foreign = PointerOffset::from_offset_and_segment_id(0, SegmentId::new(7));
     let answers = reclaimed(rt, &mut reg, &mut ends, foreign);
     let corrupted = Err(ZeroCopyReclaimError::ReceiverReturnedCorruptedPointerOffset);
-    assert_eq!(rt; answers, [corrupted, Ok(None)]);
-    assert_eq!(rt; receive(rt, &mut reg, &mut ends, 1), Ok(Some(ptr)));
+    assert!(rt; answers == [corrupted, Ok(None)]);
+    assert!(rt; receive(rt, &mut reg, &mut ends, 1) == Ok(Some(ptr)));
     Ok(())
 }
 
@@ -89,12 +89,9 @@ fn an_overflow_gives_the_oldest_back(rt: HostRuntime) -> Result<(), Fail> {
     )?;
     let first = PointerOffset::new(0);
     let second = PointerOffset::new(8);
-    assert_eq!(rt; send(&rt, &mut reg, &mut ends, first, 8, 0), Ok(None));
-    assert_eq!(rt;
-        send(&rt, &mut reg, &mut ends, second, 8, 0),
-        Ok(Some(first))
-    );
-    assert_eq!(rt; receive(&rt, &mut reg, &mut ends, 0), Ok(Some(second)));
+    assert!(rt; matches!(send(&rt, &mut reg, &mut ends, first, 8, 0), Ok(None)));
+    assert!(rt; send(&rt, &mut reg, &mut ends, second, 8, 0) == Ok(Some(first)));
+    assert!(rt; receive(&rt, &mut reg, &mut ends, 0) == Ok(Some(second)));
     Ok(())
 }
 
@@ -112,7 +109,7 @@ fn pass_and_release<S: DynamicStorage<SharedManagementData>>(
     for index in 0..samples {
         let ptr = PointerOffset::new(index * 8);
         pass(rt, reg, ends, ptr, 0);
-        assert_eq!(rt; release(rt, reg, ends, ptr, 0), Ok(()));
+        assert!(rt; matches!(release(rt, reg, ends, ptr, 0), Ok(())));
     }
 }
 
@@ -131,9 +128,11 @@ fn the_completion_queue_holds_nine<S: DynamicStorage<SharedManagementData>>(
     pass_and_release(rt, &mut reg, &mut ends, 9);
     let tenth = PointerOffset::new(72);
     pass(rt, &mut reg, &mut ends, tenth, 0);
-    assert_eq!(rt;
-        release(rt, &mut reg, &mut ends, tenth, 0),
-        Err(ZeroCopyReleaseError::RetrieveBufferFull)
+    assert!(rt;
+        matches!(
+            release(rt, &mut reg, &mut ends, tenth, 0),
+            Err(ZeroCopyReleaseError::RetrieveBufferFull)
+        )
     );
     Ok(())
 }
@@ -155,11 +154,13 @@ fn a_full_queue_refuses(rt: HostRuntime) -> Result<(), Fail> {
         builder()?.buffer_size(1),
     )?;
     let first = PointerOffset::new(0);
-    assert_eq!(rt; send(&rt, &mut reg, &mut ends, first, 8, 0), Ok(None));
-    assert_eq!(rt;
-        send(&rt, &mut reg, &mut ends, PointerOffset::new(8), 8, 0),
-        Err(ZeroCopySendError::ReceiveBufferFull)
+    assert!(rt; matches!(send(&rt, &mut reg, &mut ends, first, 8, 0), Ok(None)));
+    assert!(rt;
+        matches!(
+            send(&rt, &mut reg, &mut ends, PointerOffset::new(8), 8, 0),
+            Err(ZeroCopySendError::ReceiveBufferFull)
+        )
     );
-    assert_eq!(rt; receive(&rt, &mut reg, &mut ends, 0), Ok(Some(first)));
+    assert!(rt; receive(&rt, &mut reg, &mut ends, 0) == Ok(Some(first)));
     Ok(())
 }

@@ -1,5 +1,7 @@
 //! What no clause says: that the list is made and run with ample memory. The smallest one is written out by hand.
 
+ghost use Rattle.std.specs.Prelude.{◌+◌, ◌<◌, ◌≤◌, ◌^◌};
+
 use super::fill_commands;
 use crate::command::Command;
 use crate::replies::Replies;

@@ -7,7 +7,8 @@ use Rattle.cal_resizable.proofs.chunk_laws.a_call_changes_one_segment.Goals as g
 pub returns : goal.returns
 returns g c = record {
   given = λ old new before after layout pointer sound has here fits.
-      GivesChunk-here g.A.ShmAllocator g.met.A.ShmAllocator.allocation old new before after layout pointer sound has here
+      GivesChunk-here g.A.ShmAllocator g.met.A.ShmAllocator.allocation old new before after layout pointer sound has
+      here
       fits;
   grown = λ old before hint sound has below.
       GrowsTo-grown old before (made_segment g.A.ShmAllocator hint) finished_version sound has below;

@@ -7,6 +7,7 @@ returns g c = record {
   written = λ contents slots id offset written chunks out.
       AreOut-written g.A.ShmAllocator contents slots id offset written chunks out;
   elsewhere = λ old new slots chunks same out.
-      AreOut-elsewhere g.A.ShmAllocator.properties g.A.ShmAllocator.IsByteUsed g.A.ShmAllocator.IsAllocated old new slots
+      AreOut-elsewhere g.A.ShmAllocator.properties g.A.ShmAllocator.IsByteUsed g.A.ShmAllocator.IsAllocated old new
+      slots
       chunks same out;
 }

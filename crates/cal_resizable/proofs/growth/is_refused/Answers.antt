@@ -1,4 +1,4 @@
-use Rattle.std.proofs.Common.{◌≤◌, ap, ◌∙◌, subst, sym, arith}
+use Rattle.std.proofs.Common.{arith}
 use Rattle.cal_resizable.proofs.FullLemmas.{refused-full}
 use Rattle.cal_resizable.proofs.growth.is_refused.Goals as goal
 

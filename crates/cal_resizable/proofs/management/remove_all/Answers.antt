@@ -1,9 +1,8 @@
-use Rattle.std.proofs.Common.{◌≡◌, ◌+◌, List, ℕ, ◌∷◌, length, drop, refl, sym, ap, ◌∙◌, arith}
+use Rattle.std.proofs.Common.{◌≡◌, ◌+◌, List, ℕ, ◌∷◌, drop, sym, ap, ◌∙◌}
 use Rattle.std.proofs.lemmas.List.{drop_more, drop_all}
-use Rattle.std.specs.List.{list_any}
 use Rattle.std.specs.Map.{keys_of}
 use Rattle.cal_storage.specs.Refusals.{after_name_removal}
-use Rattle.cal_resizable.specs.Management.{belongs_to, paths_without}
+use Rattle.cal_resizable.specs.Management.{paths_without}
 use Rattle.cal_resizable.proofs.ManagementLemmas.{removals-more, removals-end, found-more, found-end}
 use Rattle.cal_resizable.proofs.management.remove_all.Goals as goal
 

@@ -1,5 +1,5 @@
 use Rattle.std.proofs.Common.{◌<◌, sym, subst}
-use Rattle.cal_resizable.specs.Slots.{HeldSegment, AreApart, IsSpared, SparesHandles, segment_at, with_less}
+use Rattle.cal_resizable.specs.Slots.{AreApart, IsSpared, SparesHandles, segment_at, with_less}
 use Rattle.cal_resizable.proofs.KeepingLemmas.{some_and, was_held-less, SparesHandles-was_held}
 use Rattle.cal_resizable.proofs.MemoryLemmas.{AreApart-was_held}
 use Rattle.cal_resizable.proofs.memory.take_back.Goals as goal

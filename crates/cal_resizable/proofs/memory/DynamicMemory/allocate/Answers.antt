@@ -94,11 +94,14 @@ returns-clause-stays_out g c =
     let new = c.allocate_here-2.new.reg in
     let after = c.allocate_here-2.new.self in
     let pointer = c.in-Ok-allocate_here.pointer.offset in
-    subst (λ (m : MemoryState). AddsChunk R.properties R.IsByteUsed R.IsAllocated c.args.reg.now m.slots c.args.layout pointer new after.slots)
+    subst (λ (m : MemoryState). AddsChunk R.properties R.IsByteUsed R.IsAllocated c.args.reg.now m.slots c.args.layout
+    pointer new after.slots)
     c.in-Err.ensures.same
-    (subst (λ reg. AddsChunk R.properties R.IsByteUsed R.IsAllocated reg c.allocate_here.new.self.slots c.args.layout pointer new after.slots)
+    (subst (λ reg. AddsChunk R.properties R.IsByteUsed R.IsAllocated reg c.allocate_here.new.self.slots c.args.layout
+    pointer new after.slots)
     c.in-Err.ensures.unchanged
-    (AddsChunk-grown R g.met.A.ShmAllocator.allocation g.met.A.ShmAllocator.served c.args.layout pointer c.allocate_here.new.reg c.grow_by.new.reg
+    (AddsChunk-grown R g.met.A.ShmAllocator.allocation g.met.A.ShmAllocator.served c.args.layout pointer
+    c.allocate_here.new.reg c.grow_by.new.reg
     new c.allocate_here.new.self c.grow_by.new.self after c.in-Ok-plan.hint
     (subst IsSoundMemory (sym c.in-Err.ensures.same) c.allocate_here.ensures.sound)
     (let own = c.allocate_here.ensures.own in own.has) c.in-Ok-plan.ensures.below c.in_default.ensures.contents

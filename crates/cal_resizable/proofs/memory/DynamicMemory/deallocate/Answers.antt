@@ -1,9 +1,7 @@
 use Rattle.std.proofs.Common.{◌≡◌, ◌<◌, ℕ, sym, subst, ◌∙◌}
-use Rattle.cal_alloc.specs.PointerOffset.{pointer_offset, offset_of, segment_of}
-use Rattle.cal_shm.specs.Calls.{ChangesAllocator}
-use Rattle.cal_resizable.specs.Growth.{TakesBack}
-use Rattle.cal_resizable.specs.Memory.{MemoryState, IsSoundMemory, HasAll, KeepsOwn}
-use Rattle.cal_resizable.specs.Slots.{SparesHandles, count_at}
+use Rattle.cal_alloc.specs.PointerOffset.{segment_of}
+use Rattle.cal_resizable.specs.Memory.{MemoryState, IsSoundMemory, HasAll}
+use Rattle.cal_resizable.specs.Slots.{count_at}
 use Rattle.cal_resizable.proofs.KeepingLemmas.{EachHandle-leaves, LeavesHandle-ChangesAllocator, has_segment, IsSoundMemory-returned, TakesBack-by, KeepsOwn-returned, SparesHandles-returned}
 use Rattle.cal_resizable.proofs.StayingLemmas.{RemovesChunk-taken}
 use Rattle.cal_resizable.proofs.memory.DynamicMemory.deallocate.Goals as goal
@@ -76,5 +74,6 @@ pub returns-clause-stays_out : goal.returns-clause-stays_out
 returns-clause-stays_out g c =
     let R = g.A.ShmAllocator in
     RemovesChunk-taken R.properties R.IsByteUsed R.IsAllocated R.Deallocates g.met.A.ShmAllocator.deallocation
-    c.args.reg.now c.take_back.new.reg c.args.self.now _ c.args.offset (subst IsSoundMemory c.self.view_is c.self.invariant) c.requires.has
+    c.args.reg.now c.take_back.new.reg c.args.self.now _ c.args.offset
+    (subst IsSoundMemory c.self.view_is c.self.invariant) c.requires.has
     c.requires.chunks (returns-clause-freed g c)

@@ -80,7 +80,8 @@ invariant_of-self g c =
     let created : mid ≡ after_creation old (segment_path memory.settings memory.name (memory.current + 1)) value
     finished_version =
     c.in-Ok.ensures.created ∙ ap (λ p. after_creation old p value finished_version) path in
-    IsSoundMemory-grown_it memory c.self.invariant old mid c.retire_unused.new.reg has value finished_version handle is_new free created
+    IsSoundMemory-grown_it memory c.self.invariant old mid c.retire_unused.new.reg has value finished_version handle
+    is_new free created
     c.retire_unused.new.self c.insert.new.self c.retire_unused.ensures.slots c.insert.ensures.held below
 
 pub returns-in-Ok-clause-made : goal.returns-in-Ok-clause-made
@@ -113,7 +114,8 @@ returns-in-Ok-clause-made g c =
     let created : mid ≡ after_creation old (segment_path memory.settings memory.name (memory.current + 1)) value
     finished_version =
     c.in-Ok.ensures.created ∙ ap (λ p. after_creation old p value finished_version) path in
-    of_new_segment memory c.self.invariant old mid c.retire_unused.new.reg has value finished_version handle is_new free created
+    of_new_segment memory c.self.invariant old mid c.retire_unused.new.reg has value finished_version handle is_new free
+    created
     c.retire_unused.new.self c.insert.new.self c.retire_unused.ensures.slots c.insert.ensures.held below
     c.retire_unused.ensures.registry
 
@@ -148,7 +150,8 @@ returns-in-Ok-clause-own g c =
     finished_version =
     c.in-Ok.ensures.created ∙ ap (λ p. after_creation old p value finished_version) path in
     rw (← c.self.view_is)
-    (KeepsOwn-grown memory c.self.invariant old mid c.retire_unused.new.reg has value finished_version handle is_new free created
+    (KeepsOwn-grown memory c.self.invariant old mid c.retire_unused.new.reg has value finished_version handle is_new
+    free created
     c.retire_unused.new.self c.insert.new.self c.retire_unused.ensures.slots c.insert.ensures.held below
     c.retire_unused.ensures.leaves c.in-Ok.ensures.holds c.in-Ok.ensures.named)
 
@@ -183,6 +186,7 @@ returns-in-Ok-clause-spares g c =
     finished_version =
     c.in-Ok.ensures.created ∙ ap (λ p. after_creation old p value finished_version) path in
     rw (← c.self.view_is)
-    (SparesHandles-grown memory c.self.invariant old mid c.retire_unused.new.reg has value finished_version handle is_new free created
+    (SparesHandles-grown memory c.self.invariant old mid c.retire_unused.new.reg has value finished_version handle
+    is_new free created
     c.retire_unused.new.self c.insert.new.self c.retire_unused.ensures.slots c.insert.ensures.held below
     c.retire_unused.ensures.spares)

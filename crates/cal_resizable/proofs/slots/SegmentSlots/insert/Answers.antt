@@ -1,4 +1,4 @@
-use Rattle.std.proofs.Common.{◌≡◌, Some, sym, ap, ◌∙◌, arith}
+use Rattle.std.proofs.Common.{Some, arith}
 use Rattle.cal_resizable.specs.declared.slots.CountedSegment.{CountedSegment}
 use Rattle.cal_resizable.specs.Slots.{HeldSegment}
 use Rattle.cal_resizable.proofs.SlotLemmas.{IsCounted-more, shown_then, fits_more}

@@ -1,6 +1,6 @@
-use Rattle.std.proofs.Common.{◌≡◌, None, Some, sym, ap, ◌∙◌, slice_set, arith}
+use Rattle.std.proofs.Common.{None, sym, ◌∙◌, arith}
 use Rattle.cal_resizable.specs.declared.slots.CountedSegment.{CountedSegment}
-use Rattle.cal_resizable.specs.Slots.{HeldSegment, segment_at}
+use Rattle.cal_resizable.specs.Slots.{HeldSegment}
 use Rattle.cal_resizable.proofs.SlotLemmas.{IsCounted-less, counted_once, shown_then, some_found}
 use Rattle.cal_resizable.proofs.slots.SegmentSlots.remove.Goals as goal
 
