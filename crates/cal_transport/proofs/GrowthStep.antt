@@ -30,6 +30,7 @@ with_next l next = record l { segments = l.segments ++ next ∷ [] }
 pub record IsFresh (shown : ActiveSegment) (next : SegmentLayout) : Type 0 where
   pub layout : shown.pool.buckets ≡ next
   pub unused : (bucket : ℕ) → is_used shown.pool bucket ≡ false
+  pub marks : length shown.pool.used ≡ next.count
   pub none_out : shown.chunks ≡ 0
   pub payload : payload next ≤ length shown.payload
 
@@ -136,6 +137,7 @@ module _ (p p' : Core) (l : Ledger) (s : IsSettled l) (next : SegmentLayout) (fr
   shown_kept segment shown below shows = record {
     layout = shows.layout ∙ sym (layout_kept segment below);
     used = shows.used;
+    marks = shows.marks ∙ ap (λ (b : SegmentLayout). b.count) (sym (layout_kept segment below));
     chunks = shows.chunks;
     payload = subst (λ b. payload b ≤ length shown.payload) (sym (layout_kept segment below)) shows.payload;
   }
@@ -160,6 +162,7 @@ module _ (p p' : Core) (l : Ledger) (s : IsSettled l) (next : SegmentLayout) (fr
     record {
       layout = g.is_fresh.layout ∙ sym layout_new;
       used = λ bucket. g.is_fresh.unused bucket ∙ sym (free_new bucket);
+      marks = g.is_fresh.marks ∙ ap (λ (b : SegmentLayout). b.count) (sym layout_new);
       chunks = g.is_fresh.none_out ∙ sym live_new;
       payload = subst (λ b. payload b ≤ length fresh.payload) (sym layout_new) g.is_fresh.payload;
     },

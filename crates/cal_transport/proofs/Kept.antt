@@ -4,6 +4,7 @@ use Rattle.std.specs.List.{slice_get}
 use Rattle.std.proofs.lemmas.Bool.{true≢false, cases_Bool, and_from, or_right, cases_lt, eq-eqb, ne_eqb, lt-ltb}
 use Rattle.std.proofs.lemmas.Option.{same_Some, none-some}
 use Rattle.std.proofs.lemmas.List.{get_or_past, length-set}
+use Rattle.cal_alloc.specs.Growth.{SegmentLayout}
 use Rattle.cal_alloc.specs.Pool.{Pool, is_used, with_mark}
 use Rattle.cal_transport.specs.Settings.{payload}
 use Rattle.cal_transport.specs.Ledger.{Ledger, Chunk, layout_at, current, chunk_named, is_live, is_free, is_mapped, has_name}
@@ -35,6 +36,7 @@ pub segment_kept : (l l' : Ledger) (segment : ℕ) (shown : ActiveSegment) → S
 segment_kept l l' segment shown alike shows = record {
   layout = shows.layout ∙ sym alike.layout;
   used = λ bucket. shows.used bucket ∙ sym (alike.free bucket);
+  marks = shows.marks ∙ ap (λ (b : SegmentLayout). b.count) (sym alike.layout);
   chunks = shows.chunks ∙ sym alike.live;
   payload = subst (λ b. payload b ≤ length shown.payload) (sym alike.layout) shows.payload;
 }
@@ -185,6 +187,7 @@ module _ (l : Ledger) (x : Change) (c : Changes l x) where
             (sym (lies_there x.old_chunk.segment bucket x.old_chunk inside).1)
             ∙ mark_cleared shown.pool x.old_chunk.bucket ∙ sym dead)
             ∙ sym (used_is after x.old_chunk.segment bucket);
+        marks = length-set shown.pool.used x.old_chunk.bucket false ∙ shows.marks;
         chunks = omega arith;
         payload = shows.payload;
       }

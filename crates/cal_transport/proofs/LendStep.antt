@@ -209,6 +209,7 @@ module _ (p p' : Core) (l : Ledger) (s : IsSettled l) (place bucket : ℕ) (name
           ∙ ap (λ b. not (is_free l (current l) there) || (b && true)) (and-false (nat_eq (current l) (current l)))
           ∙ or-false (not (is_free l (current l) there)))
     ];
+    marks = length-set shown.pool.used bucket true ∙ was.marks;
     chunks =
         let sums = live_end (current l) in
         let one = ap (λ b. one_if (b && true)) (eq-eqb (current l) (current l) refl) in

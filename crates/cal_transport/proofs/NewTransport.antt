@@ -89,6 +89,7 @@ module _ (t : TransportState) (new : IsNewState t) where
       (refl, record {
         layout = refl;
         used = λ bucket. everywhere t.settings.count bucket false;
+        marks = length-replicate t.settings.count false;
         chunks = refl;
         payload = at_least (length (replicate (payload (first_layout t.settings)) 0)) (payload (first_layout t.settings))
             (length-replicate (payload (first_layout t.settings)) 0);

@@ -158,6 +158,7 @@ module _ (p p' : Core) (l : Ledger) (s : IsSettled l) (h : ChannelHistory) (here
           record {
             layout = before.1.layout;
             used = before.1.used;
+            marks = before.1.marks;
             chunks = before.1.chunks;
             payload = (let fits = before.1.payload in let e = kept_long in omega arith);
           },

@@ -2,10 +2,26 @@
 use Rattle.std.specs.Prelude.{ℕ, List, Option, Result, Ok, Err}
 use Rattle.std.specs.Borrow.{Bor}
 use Rattle.cal_transport.specs.declared.command.Command.TheVariants as command
-use Rattle.cal_transport.specs.declared.reply.Reply.TheVariants.{Written, Sent, Received, Shown, Released, Reclaimed, Discarded, Refused}
+use Rattle.cal_transport.specs.declared.reply.Reply.TheVariants.{Loaned, Written, Sent, Received, Shown, Released, Reclaimed, Discarded, Counted, Refused}
 use Rattle.cal_transport.specs.declared.reply.Slot.{Slot}
 use Rattle.cal_transport.specs.declared.reply.Refusal.{Refusal}
-use Rattle.cal_transport.specs.State.{TransportState, DoesAnywhere}
+use Rattle.cal_transport.specs.declared.reply.Count.{Count}
+use Rattle.cal_transport.specs.declared.ported.loaning.LoanError.{LoanError}
+use Rattle.cal_transport.specs.declared.ported.loaning.LoanError.TheVariants as loan_error
+use Rattle.cal_transport.specs.Ledger.{Ledger}
+use Rattle.cal_transport.specs.Served.{RunsOut}
+use Rattle.cal_transport.specs.State.{TransportState, Represents, Does, DoesAnywhere}
+
+-- a loan that found no memory leaves the ledgers that the transport stands for, each of which wanted a further segment
+pub record LoanRunsOut (old : TransportState) (size alignment : ℕ) (new : TransportState) : Type 0 where
+  pub wanted : RunsOut old (command.Loan size alignment)
+  pub same : (l : Ledger) → Represents old l → Represents new l
+
+abbrev pub LoanDoes : TransportState → ℕ → ℕ → ℕ → Result Slot LoanError → TransportState → Type 0
+LoanDoes old name size alignment (Ok slot) new = Does old name (command.Loan size alignment) (Loaned slot) new
+LoanDoes old name size alignment (Err (loan_error.Refused why)) new =
+    Does old name (command.Loan size alignment) (Refused why) new
+LoanDoes old name size alignment (Err loan_error.NoMemory) new = LoanRunsOut old size alignment new
 
 abbrev pub WriteDoes : TransportState → ℕ → ℕ → List ℕ → Result (Unit {0}) Refusal → TransportState → Type 0
 WriteDoes old name at bytes (Ok done) new = DoesAnywhere old (command.Write name at bytes) Written new
@@ -36,3 +52,7 @@ ReclaimDoes old channel (Err why) new = DoesAnywhere old (command.Reclaim channe
 abbrev pub DiscardDoes : TransportState → ℕ → Result (Unit {0}) Refusal → TransportState → Type 0
 DiscardDoes old name (Ok done) new = DoesAnywhere old (command.Discard name) Discarded new
 DiscardDoes old name (Err why) new = DoesAnywhere old (command.Discard name) (Refused why) new
+
+-- a count changes nothing
+abbrev pub CountDoes : TransportState → Count → Type 0
+CountDoes t count = DoesAnywhere t command.Count (Counted count) t

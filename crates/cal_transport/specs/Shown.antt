@@ -22,6 +22,7 @@ is_active l segment = nat_lt segment (length l.segments) && (segment == current 
 pub record ShowsSegment (l : Ledger) (segment : ℕ) (shown : ActiveSegment) : Type 0 where
   pub layout : shown.pool.buckets ≡ layout_at l segment
   pub used : (bucket : ℕ) → is_used shown.pool bucket ≡ not (is_free l segment bucket)
+  pub marks : length shown.pool.used ≡ (layout_at l segment).count
   pub chunks : shown.chunks ≡ live_in l segment
   pub payload : payload (layout_at l segment) ≤ length shown.payload
 

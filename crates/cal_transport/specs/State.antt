@@ -91,6 +91,7 @@ pub record IsLinked (t : TransportState) : Type 0 where
   pub owners : length t.owners ≡ t.memory.current + 1
   pub tables : 256 ≤ length t.owners + t.spare_tables
   pub marks : t.settings.segments * t.settings.samples < 2 ^ 63
+  pub pairs : t.settings.samples * t.settings.segments * t.settings.channels < 2 ^ 63
 
 -- ---- the ledger
 

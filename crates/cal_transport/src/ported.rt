@@ -4,7 +4,8 @@
 mod access;
 mod chunk_entry;
 mod count;
-mod making;
+pub mod loaning;
+pub mod making;
 mod opening;
 mod parts;
 mod pointing;
@@ -17,3 +18,4 @@ mod taking_back;
 mod tests;
 mod transit;
 pub mod transport;
+mod writing;

@@ -1,9 +1,11 @@
 //! What the receiver reads of a chunk that is borrowed.
 
+ghost use Rattle.cal_transport.specs.CommandsDo.{ReadDoes};
+
 use crate::ported::chunk_entry::find_entry;
 use crate::ported::pointing::is_lent;
-use crate::ported::sender::exceeds_bucket;
 use crate::ported::transport::Transport;
+use crate::ported::writing::exceeds_bucket;
 use crate::reply::Refusal;
 
 impl Transport {
@@ -14,7 +16,9 @@ impl Transport {
         chunk: usize,
         at: usize,
         length: usize,
-    ) -> Result<&[u8], Refusal> {
+    ) -> Result<&[u8], Refusal>
+        ensures step { ReadDoes self.now channel chunk at length result }
+    {
         if channel >= self.settings.channels {
             return Err(Refusal::OutsideConnection);
         }

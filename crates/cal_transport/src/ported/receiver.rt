@@ -1,6 +1,7 @@
 //! The receiver's commands: receive, read and release.
 
 ghost use Rattle.cal_transport.specs.CommandsDo.{ReceiveDoes, ReleaseDoes};
+ghost use Rattle.cal_transport.specs.Room.{TakesRoomOfOne};
 
 use crate::ported::chunk_entry::find_entry;
 use crate::ported::pointing::{is_lent, lend, mark_of, pointed_entry, pointer_at, unlend};
@@ -13,6 +14,7 @@ impl Transport {
     /// Borrows the oldest queued chunk of a channel, if there is one.
     pub fn receive(&mut self, channel: usize) -> Result<Option<Slot>, Refusal>
         ensures step { ReceiveDoes self.old channel result self.new }
+        ensures room { TakesRoomOfOne self.old self.new }
     {
         if channel >= self.settings.channels {
             return Err(Refusal::OutsideConnection);
@@ -57,6 +59,7 @@ impl Transport {
     /// Gives a chunk that is borrowed from a channel back there.
     pub fn release(&mut self, channel: usize, chunk: usize) -> Result<(), Refusal>
         ensures step { ReleaseDoes self.old channel chunk result self.new }
+        ensures room { TakesRoomOfOne self.old self.new }
     {
         if channel >= self.settings.channels {
             return Err(Refusal::OutsideConnection);

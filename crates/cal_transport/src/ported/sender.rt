@@ -1,144 +1,23 @@
-//! The sender's commands: loan, write, send, reclaim and discard.
+//! The sender's commands on chunks that it has loaned: send, reclaim and discard.
 
-ghost use Rattle.std.specs.Prelude.{◌≡◌, ◌+◌, nat_lt};
+ghost use Rattle.cal_transport.specs.CommandsDo.{SendDoes, ReclaimDoes, DiscardDoes};
+ghost use Rattle.cal_transport.specs.Room.{TakesRoomOfOne};
 
-use crate::ported::chunk_entry::{ChunkEntry, Found, Owners, find_entry};
+use crate::ported::chunk_entry::{ChunkEntry, Found, find_entry};
 use crate::ported::taking_back::{free_unless_live, take_back};
 use crate::ported::transport::Transport;
 use crate::reply::{Refusal, Slot};
-use cal_alloc::{Layout, PointerOffset, SegmentId, ShmAllocationError};
+use cal_alloc::{PointerOffset, SegmentId};
 use cal_connection::{ChannelId, ZeroCopySendError, ZeroCopySender};
-use cal_resizable::{DynamicMemory, ResizableShmAllocationError, SegmentsHolder};
-use cal_shm::SharedMemoryCreateError;
-use std::alloc::Global;
-use thiserror::Error;
-
-/// Why no chunk was loaned. The transport stands for the ledger that it stood for.
-#[derive(Debug, Clone, Copy, PartialEq, Eq, Error)]
-pub enum LoanError {
-    /// The loan was refused.
-    #[error("LoanError::Refused")]
-    Refused(Refusal),
-    /// Memory ran out for a further segment.
-    #[error("LoanError::NoMemory")]
-    NoMemory,
-}
+use cal_resizable::SegmentsHolder;
 
 impl Transport {
-    /// Loans a chunk of zeros, in any free bucket of the current segment; where that doesn't serve it, another segment
-    /// is made, unless the memory is static. The name is greater than all before it, and there is room for its entry.
-    pub fn loan(
-        &mut self,
-        alloc: Global,
-        chunk: usize,
-        size: usize,
-        alignment: usize,
-    ) -> Result<Slot, LoanError> {
-        let Some(layout) = Layout::new(size, alignment) else {
-            return Err(LoanError::Refused(Refusal::BadLayout));
-        };
-        let table = match self.next_owners(alloc, layout) {
-            Ok(table) => table,
-            Err(error) => return Err(error),
-        };
-        let pointer = match self
-            .memory
-            .allocate(alloc, &mut self.memory_registry, layout)
-        {
-            Ok(pointer) => pointer.offset,
-            Err(error) => return Err(loan_error(error)),
-        };
-        if let Some(table) = table {
-            self.owners.push_reserved(table);
-        }
-        Ok(self.enter(chunk, pointer))
-    }
-
-    /// The table of the buckets of the segment that a loan of this layout makes, if it makes one. Its memory is taken
-    /// before the segment's, so that nothing has changed where there is none.
-    fn next_owners(&self, alloc: Global, layout: Layout) -> Result<Option<Owners>, LoanError> {
-        let Some(count) = self
-            .memory
-            .next_number_of_buckets(&self.memory_registry, layout)
-        else {
-            return Ok(None);
-        };
-        match vec![in alloc; 0; count] {
-            Ok(table) => Ok(Some(table)),
-            Err(_) => Err(LoanError::NoMemory),
-        }
-    }
-
-    /// Enters a chunk at a pointer that was just handed out, and puts zeros into it.
-    fn enter(&mut self, chunk: usize, pointer: PointerOffset) -> Slot {
-        let segment = pointer.segment_id();
-        let place = pointer.offset();
-        let size = self.memory.bucket_size(&self.memory_registry, segment);
-        DynamicMemory::bytes_mut(&mut self.memory_registry, &self.memory, pointer, size).fill(0);
-        set_owner(
-            &mut self.owners,
-            segment.value(),
-            place / size,
-            self.entries.len(),
-        );
-        self.entries.push_reserved(ChunkEntry {
-            name: chunk,
-            segment: segment.value(),
-            bucket: place / size,
-            loaned: true,
-            sent: false,
-            transits: 0,
-        });
-        Slot {
-            chunk,
-            segment: segment.value(),
-            place,
-        }
-    }
-
-    /// Writes bytes into a loaned chunk that wasn't sent yet.
-    pub fn write(&mut self, chunk: usize, at: usize, bytes: &[u8]) -> Result<(), Refusal> {
-        let Some(found) = find_entry(&self.entries, chunk) else {
-            return Err(Refusal::NotLoaned);
-        };
-        if let Some(refusal) = self.write_refusal(found.entry, at, bytes.len()) {
-            return Err(refusal);
-        }
-        if bytes.is_empty() {
-            return Ok(());
-        }
-        let size = self.bucket_size_of(found.entry);
-        let place = found.entry.bucket * size + at;
-        let segment = SegmentId::new(found.entry.segment);
-        let pointer = PointerOffset::from_offset_and_segment_id(place, segment);
-        DynamicMemory::bytes_mut(
-            &mut self.memory_registry,
-            &self.memory,
-            pointer,
-            bytes.len(),
-        )
-        .copy_from_slice(bytes);
-        Ok(())
-    }
-
-    /// Why a chunk can't be written so, if it can't.
-    fn write_refusal(&self, entry: ChunkEntry, at: usize, length: usize) -> Option<Refusal> {
-        if !entry.loaned {
-            return Some(Refusal::NotLoaned);
-        }
-        if entry.sent {
-            return Some(Refusal::WriteAfterSend);
-        }
-        let size = self.bucket_size_of(entry);
-        if exceeds_bucket(size, at, length) {
-            return Some(Refusal::OutsideChunk);
-        }
-        None
-    }
-
     /// Queues a loaned chunk on a channel. Where as many chunks are queued as may be and chunks overflow, the oldest
     /// comes back.
-    pub fn send(&mut self, channel: usize, chunk: usize) -> Result<Option<Slot>, Refusal> {
+    pub fn send(&mut self, channel: usize, chunk: usize) -> Result<Option<Slot>, Refusal>
+        ensures step { SendDoes self.old channel chunk result self.new }
+        ensures room { TakesRoomOfOne self.old self.new }
+    {
         let Some(found) = find_entry(&self.entries, chunk) else {
             return Err(Refusal::NotLoaned);
         };
@@ -227,7 +106,10 @@ impl Transport {
     }
 
     /// Takes back the oldest chunk that the receiver gave back on a channel, if there is one.
-    pub fn reclaim(&mut self, channel: usize) -> Result<Option<Slot>, Refusal> {
+    pub fn reclaim(&mut self, channel: usize) -> Result<Option<Slot>, Refusal>
+        ensures step { ReclaimDoes self.old channel result self.new }
+        ensures room { TakesRoomOfOne self.old self.new }
+    {
         if channel >= self.settings.channels {
             return Err(Refusal::OutsideConnection);
         }
@@ -252,7 +134,10 @@ impl Transport {
     }
 
     /// Ends the loan of a chunk.
-    pub fn discard(&mut self, chunk: usize) -> Result<(), Refusal> {
+    pub fn discard(&mut self, chunk: usize) -> Result<(), Refusal>
+        ensures step { DiscardDoes self.old chunk result self.new }
+        ensures room { TakesRoomOfOne self.old self.new }
+    {
         let Some(found) = find_entry(&self.entries, chunk) else {
             return Err(Refusal::NotLoaned);
         };
@@ -272,45 +157,5 @@ impl Transport {
             pointer,
         );
         Ok(())
-    }
-}
-
-/// The chunk of the entry at an index has a bucket of a segment.
-fn set_owner(owners: &mut Vec<Owners>, segment: u8, bucket: usize, index: usize) {
-    owners[segment as usize][bucket] = index;
-}
-
-/// Whether bytes at a place pass the end of a bucket of this size.
-pub(crate) fn exceeds_bucket(size: usize, at: usize, length: usize) -> bool
-    ensures passes { result ≡ nat_lt size (at + length) }
-{
-    at > size || length > size - at
-}
-
-/// The refusal of the same name as the memory's; only memory that grows runs out.
-fn loan_error(error: ResizableShmAllocationError) -> LoanError {
-    match error {
-        ResizableShmAllocationError::ShmAllocationError(error) => {
-            LoanError::Refused(static_refusal(error))
-        }
-        ResizableShmAllocationError::MaxReallocationsReached => {
-            LoanError::Refused(Refusal::MaxReallocationsReached)
-        }
-        ResizableShmAllocationError::SizeOutOfRange => LoanError::Refused(Refusal::SizeOutOfRange),
-        ResizableShmAllocationError::SharedMemoryCreateError(error) => match error {
-            SharedMemoryCreateError::NoMemory => LoanError::NoMemory,
-            SharedMemoryCreateError::InternalError => LoanError::Refused(Refusal::InternalError),
-            _ => unreachable!(),
-        },
-    }
-}
-
-/// The refusal of the same name as the pool's.
-fn static_refusal(error: ShmAllocationError) -> Refusal {
-    match error {
-        ShmAllocationError::ExceedsMaxSupportedAlignment => Refusal::ExceedsMaxSupportedAlignment,
-        ShmAllocationError::SizeTooLarge => Refusal::SizeTooLarge,
-        ShmAllocationError::OutOfMemory => Refusal::OutOfMemory,
-        ShmAllocationError::SizeIsZero => unreachable!(),
     }
 }
