@@ -78,4 +78,6 @@ pub mod ReceivedCode
 pub mod Lent
 pub mod ReleaseCode
 pub mod Frees
+pub mod TransitCounts
+pub mod TransitWalk
 mod Serving
