@@ -80,4 +80,5 @@ pub mod ReleaseCode
 pub mod Frees
 pub mod TransitCounts
 pub mod TransitWalk
+pub mod CountStep
 mod Serving
