@@ -1,10 +1,14 @@
 -- What a run over a transport comes to, by its answer.
-use Rattle.std.specs.Prelude.{◌≡◌, ℕ, List, [], ◌∷◌, Option, None, IsSomeAnd, Result, Ok, Err}
+use Rattle.std.specs.Prelude.{◌≡◌, ℕ, List, [], ◌∷◌, Option, Some, None, IsSomeAnd, Result, Ok, Err}
 use Rattle.cal_transport.specs.declared.settings.Settings.{Settings}
 use Rattle.cal_transport.specs.declared.command.Command.{Command}
 use Rattle.cal_transport.specs.declared.reply.Reply.{Reply}
 use Rattle.cal_transport.specs.Ledger.{Ledger, first_ledger}
-use Rattle.cal_transport.specs.Run.{TakesMemory, after_steps}
+use Rattle.cal_transport.specs.declared.settings.CreateCause.{CreateCause}
+use Rattle.cal_transport.specs.declared.ported.run.RunError.{RunError}
+use Rattle.cal_transport.specs.declared.ported.run.RunError.TheVariants.{Create, NoMemory}
+use Rattle.cal_transport.specs.Settings.{create_cause}
+use Rattle.cal_transport.specs.Run.{TakesMemory, after_steps, StopsForMemory}
 use Rattle.cal_transport.specs.State.{TransportState, Represents}
 
 -- memory ran out at a command that takes some, in every ledger that the transport stands for
@@ -19,3 +23,14 @@ StandsAfter settings commands replies t = Represents t (after_steps (first_ledge
 abbrev pub IsLeft : Settings → List Command → List Reply → Option TransportState → Type 0
 IsLeft settings commands [] end = end ≡ None
 IsLeft settings commands (reply ∷ replies) end = IsSomeAnd end (StandsAfter settings commands (reply ∷ replies))
+
+-- why there is no run: the settings have a cause, or memory ran out
+abbrev pub IsNotRun : Settings → List Command → RunError → Type 0
+IsNotRun settings commands (Create cause) = create_cause settings ≡ Some cause
+IsNotRun settings commands (NoMemory replies) =
+    (create_cause settings ≡ None) × StopsForMemory settings commands replies.items
+
+-- a run that found no memory leaves the transport that gave the replies; no other does
+abbrev pub IsLeftByError : Settings → List Command → RunError → Option TransportState → Type 0
+IsLeftByError settings commands (Create cause) end = end ≡ None
+IsLeftByError settings commands (NoMemory replies) end = IsLeft settings commands replies.items end

@@ -11,6 +11,7 @@ mod parts;
 mod pointing;
 mod reading;
 mod receiver;
+pub mod run;
 mod sender;
 mod sharing;
 mod taking_back;
