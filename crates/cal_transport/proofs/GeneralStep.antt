@@ -69,7 +69,7 @@ module _ (l : Ledger) (x : Change) (c : Changes l x) where
     channels = each;
     owners = λ i chunk there living. ap (λ os. slice_get os chunk.bucket) (s.owners chunk.segment)
         ∙ owners_after l x c p.owners alive tracks.owners i chunk there living;
-    tables = λ segment within. ap length (s.owners segment) ∙ tracks.tables segment within;
+    table = ap length (s.owners (current l)) ∙ tracks.table;
     in_transit = (let was = tracks.in_transit in let moved = s.in_transit in
         let sums = transits_in-after l x c in omega arith);
   }

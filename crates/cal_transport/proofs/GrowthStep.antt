@@ -304,12 +304,7 @@ module _ (p p' : Core) (l : Ledger) (s : IsSettled l) (next : SegmentLayout) (fr
         ap (λ os. slice_get os chunk.bucket)
         (g.other_owners chunk.segment (λ e. (let n = next_is in absurd (omega arith))))
         ∙ tracks.owners i chunk there living);
-    tables = λ segment within. elim (same_or_apart segment number) [
-      | inl same ↦ ap (λ n. length (p'.owners n)) (same ∙ sym next_is) ∙ g.table
-          ∙ ap (λ (b : SegmentLayout). b.count) (sym layout_new) ∙ ap (λ n. (layout_at end n).count) (sym same)
-      | inr apart ↦ ap length (g.other_owners segment (λ e. apart (e ∙ next_is)))
-          ∙ tracks.tables segment (let e = long in omega arith)
-          ∙ ap (λ (b : SegmentLayout). b.count) (sym (layout_kept segment (let e = long in omega arith)))
-    ];
+    table = ap (λ n. length (p'.owners n)) (current_end ∙ sym next_is) ∙ g.table
+        ∙ ap (λ (b : SegmentLayout). b.count) (sym layout_new) ∙ ap (λ n. (layout_at end n).count) (sym current_end);
     in_transit = g.in_transit ∙ tracks.in_transit;
   }

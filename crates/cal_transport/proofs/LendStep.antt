@@ -476,8 +476,7 @@ module _ (p p' : Core) (l : Ledger) (s : IsSettled l) (place bucket : ℕ) (name
           slice_get-set_same xs n (get_or xs n 0) x (slice_get-get_or xs n 0 below)
 
       long : length (p.owners p.current) ≡ (layout_at l (current l)).count
-      long = ap (λ n. length (p.owners n)) current_is
-          ∙ tracks.tables (current l) (let some = s.segments.some in omega arith)
+      long = ap (λ n. length (p.owners n)) current_is ∙ tracks.table
 
       new_owner : (i ≡ length l.chunks) × (chunk ≡ lent) → slice_get (p'.owners chunk.segment) chunk.bucket ≡ Some i
       new_owner new =
@@ -490,12 +489,9 @@ module _ (p p' : Core) (l : Ledger) (s : IsSettled l) (place bucket : ℕ) (name
   lent_tracks = record {
     channels = λ k h here. tracks_end k h here (tracks.channels k h here);
     owners = owner_end;
-    tables = λ segment below. elim (same_or_apart segment (current l)) [
-      | inl same ↦ ap (λ n. length (p'.owners n)) (same ∙ sym current_is) ∙ ap length r.owner
-          ∙ length-set (p.owners p.current) bucket (length p.entries)
-          ∙ ap (λ n. length (p.owners n)) (current_is ∙ sym same) ∙ tracks.tables segment below
-      | inr apart ↦ ap length (r.other_owners segment (λ e. apart (e ∙ current_is))) ∙ tracks.tables segment below
-    ];
+    table = ap (λ n. length (p'.owners n)) (sym current_is) ∙ ap length r.owner
+        ∙ length-set (p.owners p.current) bucket (length p.entries) ∙ ap (λ n. length (p.owners n)) current_is
+        ∙ tracks.table;
     in_transit =
         let sums = total_append (λ d. transits l.histories d.name) l.chunks lent in
         let none = no_transits in let kept = r.in_transit in let was = tracks.in_transit in omega arith;

@@ -1,6 +1,7 @@
 -- The parts of a new transport belong together, and show the first ledger.
-use Rattle.std.proofs.Common.{ℕ, zero, suc, ◌+◌, ◌*◌, ◌<◌, ◌≤◌, ◌≡◌, Bool, true, false, nat_lt, List, [], ◌∷◌, length, get_or, map, replicate, Some, None, refl, sym, ap, ◌∙◌, subst, arith, ◌&&◌, ◌||◌, ◌==◌, not}
+use Rattle.std.proofs.Common.{ℕ, zero, suc, ◌+◌, ◌*◌, ◌<◌, ◌≤◌, ◌≡◌, Bool, true, false, nat_lt, nat_le, List, [], ◌∷◌, length, get_or, map, replicate, Some, None, refl, sym, ap, ◌∙◌, subst, arith, mul_comm, mul-le-mul_left, ◌^◌, ◌&&◌, ◌||◌, ◌==◌, not}
 use Rattle.std.specs.List.{slice_get}
+use Rattle.std.proofs.lemmas.Bool.{true≢false}
 use Rattle.std.proofs.lemmas.Bool.Decides.{nat_tests}
 use Rattle.std.proofs.lemmas.List.{length-replicate, get_or-replicate}
 use Rattle.std.proofs.lemmas.Option.{none-some, same_Some}
@@ -10,9 +11,9 @@ use Rattle.cal_connection.specs.Port as port
 use Rattle.cal_connection.specs.PortLemmas.{shape-channel_at}
 use Rattle.cal_connection.specs.declared.settings.ConnectionSettings.{ConnectionSettings}
 use Rattle.cal_transport.specs.declared.settings.Settings.{Settings}
-use Rattle.cal_transport.specs.Settings.{clamped_settings, first_layout, payload, create_cause}
+use Rattle.cal_transport.specs.Settings.{clamped_settings, completion_size, first_layout, payload, create_cause}
 use Rattle.cal_transport.specs.Ledger.{Ledger, ChannelHistory, first_ledger, new_history, current, is_unused}
-use Rattle.cal_transport.specs.Opening.{first_segment, HasFirstSegment, AreNewTogether, AreNewPorts}
+use Rattle.cal_transport.specs.Opening.{CanOpen, first_segment, HasFirstSegment, AreNewTogether, AreNewPorts}
 use Rattle.cal_transport.specs.Shown.{ShowsActive, ShowsMapped, ShowsChannel, TracksChannel, Shows, Tracks, connection_settings}
 use Rattle.cal_transport.specs.Soundness.{IsSoundLedger}
 use Rattle.cal_transport.specs.State.{TransportState, IsLinked, Represents, core_of, active_at}
@@ -20,6 +21,7 @@ use Rattle.cal_transport.proofs.Sound.{sound_first}
 
 -- what the parts of a new transport are
 pub record IsNewState (t : TransportState) : Type 0 where
+  pub can : CanOpen t.settings
   pub parts : AreNewTogether t.settings t.memory_registry t.memory t.view
   pub ports : AreNewPorts t.settings t.connection_registry t.sender t.receiver
   pub lent : t.lent ≡ replicate t.settings.channels (none_used (t.settings.segments * t.settings.samples))
@@ -60,6 +62,26 @@ none_in_use settings zero segment bucket = refl
 none_in_use settings (suc n) zero bucket = everywhere settings.number_of_samples bucket false
 none_in_use settings (suc n) (suc segment) bucket = none_in_use settings n segment bucket
 
+-- ---- how large a connection can be
+
+pub few_pairs : (s : Settings) → CanOpen s → s.samples * s.segments * s.channels < 2 ^ 63
+few_pairs s can = go (nat_le (2 ^ 63) (completion_size s)) (nat_le (2 ^ 63) (s.samples * s.segments * s.channels)) refl
+    can.connection
+  where
+    go : (a b : Bool) → nat_le (2 ^ 63) (s.samples * s.segments * s.channels) ≡ b → (a || b) ≡ false →
+        s.samples * s.segments * s.channels < 2 ^ 63
+    go true b e none = absurd (true≢false none)
+    go false true e none = absurd (true≢false none)
+    go false false e none = grind (arith, nat_tests)
+
+pub few_marks : (s : Settings) → CanOpen s → s.segments * s.samples < 2 ^ 63
+few_marks s can =
+    let pairs = few_pairs s can in
+    let some = can.room.channels in
+    let most : s.samples * s.segments * 1 ≤ s.samples * s.segments * s.channels =
+    mul-le-mul_left (s.samples * s.segments) some in
+    let same : s.segments * s.samples ≡ s.samples * s.segments = mul_comm s.segments s.samples in omega arith
+
 -- ---- what is shown
 
 module _ (t : TransportState) (new : IsNewState t) where
@@ -81,6 +103,8 @@ module _ (t : TransportState) (new : IsNewState t) where
         transits = ap length new.transits ∙ length-replicate t.settings.channels 0;
         owners = omega (arith, long, first);
         tables = omega (arith, long, new.tables);
+        marks = few_marks t.settings new.can;
+        pairs = few_pairs t.settings new.can;
       }
 
   shows_active : (segment : ℕ) → ShowsActive l segment (active_at t.memory_registry t.memory.slots segment)
@@ -138,12 +162,8 @@ module _ (t : TransportState) (new : IsNewState t) where
         transits = ap (λ counts. get_or counts k 0) new.transits ∙ everywhere t.settings.channels k 0;
       })
 
-  table_long : (segment : ℕ) → segment < 1 →
-      length (get_or t.owners segment []) ≡ (get_or l.segments segment (record { size = 0; alignment = 0; count = 0 }
-      )).count
-  table_long zero below =
-      ap (λ owners. length (get_or owners 0 [])) new.owners ∙ length-replicate t.settings.count 0
-  table_long (suc n) below = absurd (omega arith)
+  table_long : length (get_or t.owners 0 []) ≡ t.settings.count
+  table_long = ap (λ owners. length (get_or owners 0 [])) new.owners ∙ length-replicate t.settings.count 0
 
   shows : Shows (core_of t) l
   shows = record {
@@ -161,7 +181,7 @@ module _ (t : TransportState) (new : IsNewState t) where
   tracks = record {
     channels = tracks_channel;
     owners = λ i chunk e. absurd (none-some chunk e);
-    tables = table_long;
+    table = table_long;
     in_transit = new.in_transit;
   }
 

@@ -107,6 +107,6 @@ same_tracks p p' l same tracks = record {
   });
   owners = λ i chunk there living. ap (λ os. slice_get os chunk.bucket) (same.owners chunk.segment)
       ∙ tracks.owners i chunk there living;
-  tables = λ segment within. ap length (same.owners segment) ∙ tracks.tables segment within;
+  table = ap length (same.owners (current l)) ∙ tracks.table;
   in_transit = same.in_transit ∙ tracks.in_transit;
 }

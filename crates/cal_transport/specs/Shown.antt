@@ -123,6 +123,5 @@ pub record Tracks (p : Core) (l : Ledger) : Type 0 where
       TracksChannel p l k history
   pub owners : (i : ℕ) (chunk : Chunk) → slice_get l.chunks i ≡ Some chunk → is_live l chunk ≡ true →
       slice_get (p.owners chunk.segment) chunk.bucket ≡ Some i
-  pub tables : (segment : ℕ) → segment < length l.segments →
-      length (p.owners segment) ≡ (layout_at l segment).count
+  pub table : length (p.owners (current l)) ≡ (layout_at l (current l)).count
   pub in_transit : p.in_transit ≡ transits_in l

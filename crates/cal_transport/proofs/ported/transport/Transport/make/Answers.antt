@@ -38,6 +38,7 @@ invariant_of-result c =
       spare_tables = vec_capacity c.in_ok-owners.owners - vec_len c.in_ok-owners.owners;
     } in
     let new : IsNewState t = record {
+      can = subst CanOpen (sym c.clamped-settings.ensures.value) (can_open c.args.settings.now c.requires.made);
       parts = c.in_ok-view.ensures.together;
       ports = c.in_ok-ports.ensures.made;
       lent = c.in_ok-lent.ensures.none;
@@ -72,6 +73,7 @@ returns-clause-first c =
       spare_tables = vec_capacity c.in_ok-owners.owners - vec_len c.in_ok-owners.owners;
     } in
     let new : IsNewState t = record {
+      can = subst CanOpen (sym c.clamped-settings.ensures.value) (can_open c.args.settings.now c.requires.made);
       parts = c.in_ok-view.ensures.together;
       ports = c.in_ok-ports.ensures.made;
       lent = c.in_ok-lent.ensures.none;
