@@ -14,7 +14,7 @@ use Rattle.cal_transport.proofs.Settled.{IsSettled}
 use Rattle.cal_transport.proofs.Fronts.{named, entry_at}
 
 -- a list that maps to an element at a place has one there
-stands_under : {A B : Type 0} (f : A → B) (xs : List A) (i : ℕ) (y : B) → slice_get (map f xs) i ≡ Some y →
+pub stands_under : {A B : Type 0} (f : A → B) (xs : List A) (i : ℕ) (y : B) → slice_get (map f xs) i ≡ Some y →
     (x : A) × (slice_get xs i ≡ Some x) × (y ≡ f x)
 stands_under f [] i y e = absurd (none-some y e)
 stands_under f (x ∷ xs) zero y e = (x, refl, sym (same_Some (f x) y e))

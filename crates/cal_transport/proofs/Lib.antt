@@ -81,4 +81,5 @@ pub mod Frees
 pub mod TransitCounts
 pub mod TransitWalk
 pub mod CountStep
+pub mod Determined
 mod Serving
