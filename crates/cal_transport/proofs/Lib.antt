@@ -82,4 +82,5 @@ pub mod TransitCounts
 pub mod TransitWalk
 pub mod CountStep
 pub mod Determined
+pub mod Reaching
 mod Serving

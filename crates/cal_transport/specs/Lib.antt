@@ -35,3 +35,4 @@ pub mod Opening
 pub mod Room
 pub mod Served
 pub mod TransitLines
+pub mod Reached
