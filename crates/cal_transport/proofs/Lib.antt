@@ -81,6 +81,7 @@ pub mod Frees
 pub mod TransitCounts
 pub mod TransitWalk
 pub mod CountStep
+pub mod TransitCode
 pub mod Determined
 pub mod Reaching
 mod Serving

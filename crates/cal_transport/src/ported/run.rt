@@ -72,7 +72,7 @@ pub fn run_transport(
         match transport.serve(alloc, index + 1, command) {
             Ok(reply) => replies.push(reply),
             Err(_) => {
-                if !replies.is_empty() {
+                if replies.len() > 0 {
                     *end = Some(transport);
                 }
                 return Err(RunError::NoMemory(replies));
