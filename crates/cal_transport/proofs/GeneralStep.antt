@@ -4,7 +4,7 @@ use Rattle.std.specs.List.{slice_get}
 use Rattle.std.proofs.lemmas.Bool.{lt-ltb, ltb-true}
 use Rattle.std.proofs.lemmas.List.{length-set}
 use Rattle.std.proofs.lemmas.Option.{same_Some}
-use Rattle.cal_transport.specs.Ledger.{Ledger, Chunk, ChannelHistory, layout_at, is_live, is_in_transit}
+use Rattle.cal_transport.specs.Ledger.{current, Ledger, Chunk, ChannelHistory, layout_at, is_live, is_in_transit}
 use Rattle.cal_transport.specs.Parts.{weight, IsOrderly}
 use Rattle.cal_transport.specs.Soundness.{LiesWithin, IsSentChunk}
 use Rattle.cal_transport.specs.Weights.{transits}

@@ -9,7 +9,7 @@ use Rattle.cal_transport.specs.declared.command.Command.{Command}
 use Rattle.cal_transport.specs.declared.reply.Reply.{Reply}
 use Rattle.cal_transport.specs.declared.reply.Reply.TheVariants.{Refused}
 use Rattle.cal_transport.specs.declared.reply.Refusal.{Refusal}
-use Rattle.cal_transport.specs.Ledger.{Ledger, ChannelHistory, history_on, new_history}
+use Rattle.cal_transport.specs.Ledger.{current, Ledger, ChannelHistory, history_on, new_history}
 use Rattle.cal_transport.specs.Cause.{cause}
 use Rattle.cal_transport.specs.Step.{Owes, IsStep, IsStepBy, after_command, after_step, after_step_by}
 use Rattle.cal_transport.specs.Core.{Core}

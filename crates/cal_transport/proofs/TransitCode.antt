@@ -5,7 +5,7 @@ use Rattle.std.proofs.lemmas.Bool.{true≢false, lt-ltb, ltb-true}
 use Rattle.std.proofs.lemmas.List.{length-map, map-append}
 use Rattle.std.proofs.lemmas.Option.{same_Some}
 use Rattle.cal_alloc.specs.Growth.{SegmentLayout}
-use Rattle.cal_alloc.specs.Limits.{max_memory_size}
+use Rattle.cal_alloc.specs.Limits.{max_memory_size, bucket_limit}
 use Rattle.cal_alloc.specs.Pool.{Pool}
 use Rattle.cal_queue.specs.FirstFrom.{IsFirst}
 use Rattle.cal_shm.specs.Segment.{Segment}
@@ -26,7 +26,7 @@ use Rattle.cal_transport.specs.Run.{transit_at}
 use Rattle.cal_transport.specs.TransitLines.{line_of, lines_below, lines_in}
 use Rattle.cal_transport.specs.Weights.{holds, total, one_if, transits}
 use Rattle.cal_transport.proofs.Changed.{live_is}
-use Rattle.cal_transport.proofs.Fronts.{has_segment, alive_active, leads, led}
+use Rattle.cal_transport.proofs.Fronts.{sizes_of, has_segment, alive_active, leads, led}
 use Rattle.cal_transport.proofs.Lent.{namable}
 use Rattle.cal_transport.proofs.ReleaseCode.{PlaceOf, place_of}
 use Rattle.cal_transport.proofs.Seen.{is_seen}
@@ -36,42 +36,43 @@ use Rattle.cal_transport.proofs.Stands.{HasHistory, has_history}
 use Rattle.cal_transport.proofs.Totals.{total_least}
 use Rattle.cal_transport.proofs.TransitWalk.{IsListed, none_there, one_there, flat_map_next, flat_map_gap, flat_map_ends, part_few}
 
-module _ (t : TransportState) (k segment : ℕ) (inside : k < t.settings.channels) where
-  abbrev in_use : ℕ → Bool
-  in_use bucket = is_used (channel_of t.connection_registry t.sender.handle k).segments segment bucket
+-- a bucket is in use on a channel
+abbrev pub in_use : TransportState → ℕ → ℕ → ℕ → Bool
+in_use t k segment bucket = is_used (channel_of t.connection_registry t.sender.handle k).segments segment bucket
 
+module _ (t : TransportState) (k segment : ℕ) (inside : k < t.settings.channels) where
   module _ (l : Ledger) (r : Represents t l) where
-    s : IsSettled l
+    pub s : IsSettled l
     s = settled l r.place r.sound
 
-    abbrev has : HasHistory l k
+    abbrev pub has : HasHistory l k
     has = has_history l (settled l r.place r.sound) k
         (subst (λ (c : Settings). k < c.channels) r.shows.settings inside)
 
     used_is : (bucket : ℕ) →
-        in_use bucket ≡ holds (λ chunk. is_in_transit has.history chunk.name) l.chunks segment bucket
+        in_use t k segment bucket ≡ holds (λ chunk. is_in_transit has.history chunk.name) l.chunks segment bucket
     used_is bucket = (r.shows.channels k has.history has.here).used segment bucket
 
-    abbrev Told : ℕ → Type 0
+    abbrev pub Told : ℕ → Type 0
     Told bucket = IsListed l s k has.history has.here has.on segment bucket
 
-    pub told : (bucket : ℕ) → in_use bucket ≡ true → Told bucket
+    pub told : (bucket : ℕ) → in_use t k segment bucket ≡ true → Told bucket
     told bucket used =
         one_there l s k has.history has.here has.on segment bucket (sym (used_is bucket) ∙ used)
 
-    untold : (bucket : ℕ) → in_use bucket ≡ false → transit_at l k segment bucket ≡ []
+    untold : (bucket : ℕ) → in_use t k segment bucket ≡ false → transit_at l k segment bucket ≡ []
     untold bucket unused =
         none_there l s k has.history has.here has.on segment bucket (sym (used_is bucket) ∙ unused)
 
     -- a bucket in use is one of the segment's, and the connection can name it
-    pub inside_segment : (bucket : ℕ) → in_use bucket ≡ true → bucket < (layout_at l segment).count
+    pub inside_segment : (bucket : ℕ) → in_use t k segment bucket ≡ true → bucket < (layout_at l segment).count
     inside_segment bucket used =
         let one = told bucket used in
         let within = (s.within one.index one.chunk one.stands).bucket in
         subst (λ n. n < (layout_at l segment).count) one.in_bucket
         (subst (λ n. one.chunk.bucket < (layout_at l n).count) one.in_segment within)
 
-    pub inside_samples : (bucket : ℕ) → in_use bucket ≡ true → bucket < t.settings.samples
+    pub inside_samples : (bucket : ℕ) → in_use t k segment bucket ≡ true → bucket < t.settings.samples
     inside_samples bucket used =
         let one = told bucket used in
         let least = total_least (λ (h : ChannelHistory). one_if (is_in_transit h one.chunk.name)) l.histories k
@@ -82,22 +83,30 @@ module _ (t : TransportState) (k segment : ℕ) (inside : k < t.settings.channel
         subst (λ (c : Settings). bucket < c.samples) (sym r.shows.settings)
         (subst (λ n. n < l.settings.samples) one.in_bucket n.bucket)
 
+    pub few_buckets : (bucket : ℕ) → in_use t k segment bucket ≡ true → bucket < bucket_limit
+    few_buckets bucket used =
+        let one = told bucket used in
+        let within = (s.within one.index one.chunk one.stands).bucket in
+        let sizes = sizes_of l s one.index one.chunk one.stands in
+        let most = sizes.count in
+        subst (λ n. n < bucket_limit) one.in_bucket (omega arith)
+
     -- ---- the parts of a chunk that is told
 
-    pub place : (bucket : ℕ) → (used : in_use bucket ≡ true) →
+    pub place : (bucket : ℕ) → (used : in_use t k segment bucket ≡ true) →
         PlaceOf t l (told bucket used).chunk (entry_of l.histories (told bucket used).chunk)
     place bucket used =
         let one = told bucket used in
         place_of t l s r.shows one.index one.chunk one.stands one.alive
 
-    pub held : (bucket : ℕ) → in_use bucket ≡ true → IsSome (segment_at t.memory.slots segment)
+    pub held : (bucket : ℕ) → in_use t k segment bucket ≡ true → IsSome (segment_at t.memory.slots segment)
     held bucket used =
         let one = told bucket used in
         let at = place bucket used in
         subst (λ n. IsSome (segment_at t.memory.slots n)) one.in_segment
         (shown_held t.memory_registry t.memory.slots one.chunk.segment at.place.segment at.place.there)
 
-    pub leads_there : (bucket : ℕ) → in_use bucket ≡ true →
+    pub leads_there : (bucket : ℕ) → in_use t k segment bucket ≡ true →
         LeadsToEntry t.entries (get_or t.owners segment []) bucket
     leads_there bucket used =
         let one = told bucket used in
@@ -105,7 +114,7 @@ module _ (t : TransportState) (k segment : ℕ) (inside : k < t.settings.channel
         (subst (λ n. LeadsToEntry t.entries (get_or t.owners n []) one.chunk.bucket) one.in_segment
         (leads (core_of t) l one.index one.chunk r.shows r.tracks one.stands one.alive))
 
-    size_there : (bucket size : ℕ) → (used : in_use bucket ≡ true) → OfSegment t.memory_registry t.memory.slots segment
+    size_there : (bucket size : ℕ) → (used : in_use t k segment bucket ≡ true) → OfSegment t.memory_registry t.memory.slots segment
         (λ (held : Segment Pool). size ≡ held.allocator.buckets.size) →
         size ≡ (place bucket used).place.segment.allocator.buckets.size
     size_there bucket size used is =
@@ -116,7 +125,7 @@ module _ (t : TransportState) (k segment : ℕ) (inside : k < t.settings.channel
         (subst (λ n. OfSegment t.memory_registry t.memory.slots n
         (λ (held : Segment Pool). size ≡ held.allocator.buckets.size)) (sym one.in_segment) is) at.place.there
 
-    pub place_fits : (bucket size : ℕ) → in_use bucket ≡ true → OfSegment t.memory_registry t.memory.slots segment
+    pub place_fits : (bucket size : ℕ) → in_use t k segment bucket ≡ true → OfSegment t.memory_registry t.memory.slots segment
         (λ (held : Segment Pool). size ≡ held.allocator.buckets.size) → bucket * size < max_memory_size
     place_fits bucket size used is =
         let one = told bucket used in
@@ -124,7 +133,7 @@ module _ (t : TransportState) (k segment : ℕ) (inside : k < t.settings.channel
         subst (λ n. n * size < max_memory_size) one.in_bucket
         (subst (λ n. one.chunk.bucket * n < max_memory_size) (sym (size_there bucket size used is)) at.place.small)
 
-    size_is : (bucket size : ℕ) → in_use bucket ≡ true → OfSegment t.memory_registry t.memory.slots segment
+    size_is : (bucket size : ℕ) → in_use t k segment bucket ≡ true → OfSegment t.memory_registry t.memory.slots segment
         (λ (held : Segment Pool). size ≡ held.allocator.buckets.size) → size ≡ (layout_at l segment).size
     size_is bucket size used is =
         let one = told bucket used in
@@ -142,7 +151,7 @@ module _ (t : TransportState) (k segment : ℕ) (inside : k < t.settings.channel
     reply_at name number at = Transit k (record { chunk = name; segment = number; place = at })
 
     -- the reply tells of the chunk
-    pub line_is : (bucket size index : ℕ) (entry : ChunkEntry) → (used : in_use bucket ≡ true) →
+    pub line_is : (bucket size index : ℕ) (entry : ChunkEntry) → (used : in_use t k segment bucket ≡ true) →
         OfSegment t.memory_registry t.memory.slots segment
         (λ (held : Segment Pool). size ≡ held.allocator.buckets.size) →
         slice_get (get_or t.owners segment []) bucket ≡ Some index → slice_get t.entries index ≡ Some entry →
@@ -162,14 +171,14 @@ module _ (t : TransportState) (k segment : ℕ) (inside : k < t.settings.channel
 
     -- ---- the walk
 
-    pub up_to : (start bucket : ℕ) → IsFirst in_use start bucket →
+    pub up_to : (start bucket : ℕ) → IsFirst (in_use t k segment) start bucket →
         lines_below l k segment bucket ≡ lines_below l k segment start
     up_to start bucket first =
         ap (map (line_of l k))
         (flat_map_gap (transit_at l k segment) start bucket first.not_before
         (λ n above below. untold n (first.first n above below)))
 
-    pub one_more : (start bucket : ℕ) (first : IsFirst in_use start bucket) →
+    pub one_more : (start bucket : ℕ) (first : IsFirst (in_use t k segment) start bucket) →
         lines_below l k segment (bucket + 1)
         ≡ lines_below l k segment start ++ line_of l k (told bucket first.passes).chunk ∷ []
     one_more start bucket first =
@@ -181,29 +190,29 @@ module _ (t : TransportState) (k segment : ℕ) (inside : k < t.settings.channel
         ∙ ap (λ told. lines_below l k segment bucket ++ map (line_of l k) told) one.alone
         ∙ ap (λ before. before ++ line_of l k one.chunk ∷ []) (up_to start bucket first)
 
-    pub to_end : (start : ℕ) → ((n : ℕ) → start ≤ n → in_use n ≡ false) →
+    pub to_end : (start : ℕ) → ((n : ℕ) → start ≤ n → in_use t k segment n ≡ false) →
         lines_in l k segment ≡ lines_below l k segment start
     to_end start none =
         ap (map (line_of l k))
         (flat_map_ends (transit_at l k segment) (layout_at l segment).count start
-        (λ n past below. untold n (outside n past (in_use n) refl))
+        (λ n past below. untold n (outside n past (in_use t k segment n) refl))
         (λ n above below. untold n (none n above)))
       where
-        outside : (n : ℕ) → (layout_at l segment).count ≤ n → (b : Bool) → in_use n ≡ b → in_use n ≡ false
+        outside : (n : ℕ) → (layout_at l segment).count ≤ n → (b : Bool) → in_use t k segment n ≡ b → in_use t k segment n ≡ false
         outside n past false e = e
         outside n past true e = let below = inside_segment n e in absurd (omega arith)
 
     -- there is room for one more line
-    pub has_room : (start bucket spare spare_before : ℕ) (before now : List Reply) → IsFirst in_use start bucket →
+    pub has_room : (start bucket spare spare_before : ℕ) (before now : List Reply) → IsFirst (in_use t k segment) start bucket →
         now ≡ before ++ lines_below l k segment start → spare + length now ≡ spare_before + length before →
         length (lines_in l k segment) ≤ spare_before → 0 < spare
-    has_room start bucket spare spare_before before now first is total few =
+    has_room start bucket spare spare_before before now first is kept few =
         let few_more = part_few (transit_at l k segment) bucket (layout_at l segment).count
         (inside_segment bucket first.passes) in
         let alone = ap length (told bucket first.passes).alone in
-        let all = length-map (line_of l k) (flat_map (transit_at l k segment) (numbers_below (layout_at l
-            segment).count)) in
-        let so_far = length-map (line_of l k) (flat_map (transit_at l k segment) (numbers_below bucket)) in
+        let all = length-map (flat_map (transit_at l k segment) (numbers_below (layout_at l segment).count))
+        (line_of l k) in
+        let so_far = length-map (flat_map (transit_at l k segment) (numbers_below bucket)) (line_of l k) in
         let same = ap length (up_to start bucket first) in
         let long = ap length is ∙ length-append before (lines_below l k segment start) in
         omega arith

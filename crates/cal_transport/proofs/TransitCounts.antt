@@ -142,7 +142,7 @@ module _ (l : Ledger) (k : ℕ) where
 
   pub lines_on_few : length (lines_on l k) ≤ transits_on (history_on l k) l.chunks
   lines_on_few =
-      let long = length-map (λ (chunk : Chunk). Transit k (slot_of l chunk)) (transit_on l k) in
+      let long = length-map (transit_on l k) (λ (chunk : Chunk). Transit k (slot_of l chunk)) in
       let few = transit_on_few in omega arith
 
 -- all lines together are no more than chunks are in transit, each counted once for each channel

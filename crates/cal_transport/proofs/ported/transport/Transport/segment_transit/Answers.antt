@@ -1,14 +1,15 @@
-use Rattle.std.proofs.Common.{◌≡◌, ◌≤◌, ◌<◌, ◌+◌, ◌-◌, ◌*◌, ◌++◌, ◌∷◌, [], length, get_or, map, vec_items, Some, ℕ, false, IsSome, refl, sym, ap, ◌∙◌, subst, arith, length-append, append_assoc}
+use Rattle.std.proofs.Common.{◌≡◌, ◌≤◌, ◌<◌, ◌+◌, ◌-◌, ◌*◌, ◌++◌, ◌∷◌, List, [], length, get_or, map, vec_items, Some, ℕ, false, IsSome, refl, sym, ap, ◌∙◌, subst, arith, length-append, append_assoc}
 use Rattle.std.specs.List.{slice_get}
 use Rattle.cal_queue.specs.FirstFrom.{IsFirst}
 use Rattle.cal_resizable.specs.Slots.{segment_at}
+use Rattle.cal_transport.specs.declared.reply.Reply.{Reply}
 use Rattle.cal_transport.specs.declared.reply.Reply.TheVariants.{Transit}
 use Rattle.cal_transport.specs.ChunkEntry.{LeadsToEntry, owners_of}
 use Rattle.cal_transport.specs.Ledger.{Ledger}
 use Rattle.cal_transport.specs.State.{TransportState, Represents}
 use Rattle.cal_transport.specs.StateOf.{state_of}
 use Rattle.cal_transport.specs.TransitLines.{line_of, lines_below, lines_in}
-use Rattle.cal_transport.proofs.TransitCode.{in_use, held, leads_there, place_fits, inside_samples, has_room, line_is, one_more, to_end, told}
+use Rattle.cal_transport.proofs.TransitCode.{in_use, few_buckets, held, leads_there, place_fits, inside_samples, has_room, line_is, one_more, to_end, told}
 use Rattle.cal_transport.proofs.ported.transport.Transport.segment_transit.Goals as goal
 
 -- the clauses are over the number of the channel
@@ -16,6 +17,9 @@ first_at : (t : TransportState) (n k segment start bucket : ℕ) → n ≡ k →
     IsFirst (in_use t k segment) start bucket
 first_at t n k segment start bucket same first =
     subst (λ m. IsFirst (in_use t m segment) start bucket) same first
+
+longer : (before now : List Reply) (told : Reply) → now ≡ before ++ told ∷ [] → length now ≡ length before + 1
+longer before now told is = ap length is ∙ length-append before (told ∷ [])
 
 pub bucket_size-size-requires-clause-active : goal.bucket_size-size-requires-clause-active
 bucket_size-size-requires-clause-active c =
@@ -78,7 +82,7 @@ overflow_add-from c =
     c.requires.channel in
     let first = first_at t c.new-channel_id.result c.args.channel c.args.segment c.loop-bucket.from c.in-Some.bucket
     c.new-channel_id.ensures.value c.in-Some.ensures.first in
-    let below = inside_samples t c.args.channel c.args.segment inside c.self.invariant.ledger
+    let below = few_buckets t c.args.channel c.args.segment inside c.self.invariant.ledger
     c.self.invariant.represents c.in-Some.bucket first.passes in
     omega arith
 
@@ -108,7 +112,6 @@ loop-bucket-preserved c =
     c.deref-in-Some.ensures.value c.entry_at-found.ensures.owner) in
     let entry = subst (λ es. slice_get es c.entry_at-found.result.index ≡ Some c.entry_at-found.result.entry)
     c.deref.ensures.value c.entry_at-found.ensures.entry in
-    let spare = push-requires c in
     record {
       listed = λ m r. (
           let stands = subst (λ u. Represents u m) (sym c.self.view_is) r in
@@ -130,10 +133,15 @@ loop-bucket-preserved c =
           ∙ ap (λ told. c.args.into.now.items ++ told)
           (sym (one_more t c.args.channel c.args.segment inside m stands c.loop-bucket.from c.in-Some.bucket first)));
       total = (
-          let long = ap length c.push.ensures.items ∙ length-append c.loop-bucket.into.items (c.push.new.reply ∷ []) in
+          let long = longer c.loop-bucket.into.items c.push.new.self.items _ c.push.ensures.items in
           let was = c.loop-bucket.invariant.total in
           let less = c.push.ensures.room in
-          let some = spare.room in omega arith);
+          let some = has_room t c.args.channel c.args.segment inside c.self.invariant.ledger c.self.invariant.represents
+          c.loop-bucket.from c.in-Some.bucket c.loop-bucket.into.spare c.args.into.now.spare c.args.into.now.items
+          c.loop-bucket.into.items first (c.loop-bucket.invariant.listed c.self.invariant.ledger
+          (subst (λ u. Represents u c.self.invariant.ledger) c.self.view_is c.self.invariant.represents))
+          c.loop-bucket.invariant.total (c.requires.room c.self.invariant.ledger
+          (subst (λ u. Represents u c.self.invariant.ledger) c.self.view_is c.self.invariant.represents)) in omega arith);
       within = (
           let below = subst (λ (u : TransportState). c.in-Some.bucket < u.settings.samples) c.self.view_is
           (inside_samples t c.args.channel c.args.segment inside c.self.invariant.ledger c.self.invariant.represents
