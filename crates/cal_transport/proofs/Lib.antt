@@ -82,6 +82,7 @@ pub mod TransitCounts
 pub mod TransitWalk
 pub mod CountStep
 pub mod TransitCode
+pub mod TransitChannels
 pub mod Determined
 pub mod Reaching
 mod Serving

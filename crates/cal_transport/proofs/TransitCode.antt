@@ -27,7 +27,7 @@ use Rattle.cal_transport.specs.TransitLines.{line_of, lines_below, lines_in}
 use Rattle.cal_transport.specs.Weights.{holds, total, one_if, transits}
 use Rattle.cal_transport.proofs.Changed.{live_is}
 use Rattle.cal_transport.proofs.Fronts.{sizes_of, has_segment, alive_active, leads, led}
-use Rattle.cal_transport.proofs.Lent.{namable}
+use Rattle.cal_transport.proofs.Lent.{IsNamable, namable}
 use Rattle.cal_transport.proofs.ReleaseCode.{PlaceOf, place_of}
 use Rattle.cal_transport.proofs.Seen.{is_seen}
 use Rattle.cal_transport.proofs.Segments.{of_shown, shown_held}
@@ -72,16 +72,34 @@ module _ (t : TransportState) (k segment : ℕ) (inside : k < t.settings.channel
         subst (λ n. n < (layout_at l segment).count) one.in_bucket
         (subst (λ n. one.chunk.bucket < (layout_at l n).count) one.in_segment within)
 
-    pub inside_samples : (bucket : ℕ) → in_use t k segment bucket ≡ true → bucket < t.settings.samples
-    inside_samples bucket used =
+    named_there : (bucket : ℕ) → (used : in_use t k segment bucket ≡ true) → IsNamable l (told bucket used).chunk
+    named_there bucket used =
         let one = told bucket used in
         let least = total_least (λ (h : ChannelHistory). one_if (is_in_transit h one.chunk.name)) l.histories k
         has.history has.here in
         let counted = ap one_if one.moves in
-        let n = namable l s one.index one.chunk one.stands
-        (lt-ltb 0 (transits l.histories one.chunk.name) (omega arith)) in
+        namable l s one.index one.chunk one.stands (lt-ltb 0 (transits l.histories one.chunk.name) (omega arith))
+
+    pub inside_samples : (bucket : ℕ) → in_use t k segment bucket ≡ true → bucket < t.settings.samples
+    inside_samples bucket used =
         subst (λ (c : Settings). bucket < c.samples) (sym r.shows.settings)
-        (subst (λ n. n < l.settings.samples) one.in_bucket n.bucket)
+        (subst (λ n. n < l.settings.samples) (told bucket used).in_bucket (named_there bucket used).bucket)
+
+    inside_segments : (bucket : ℕ) → in_use t k segment bucket ≡ true → segment < t.settings.segments
+    inside_segments bucket used =
+        subst (λ (c : Settings). segment < c.segments) (sym r.shows.settings)
+        (subst (λ n. n < l.settings.segments) (told bucket used).in_segment (named_there bucket used).segment)
+
+    -- nothing is told of a segment that the connection can't name
+    pub none_beyond : t.settings.segments ≤ segment → lines_in l k segment ≡ []
+    none_beyond past =
+        ap (map (line_of l k))
+        (flat_map_gap (transit_at l k segment) 0 (layout_at l segment).count (omega arith)
+        (λ n above below. untold n (outside n (in_use t k segment n) refl)))
+      where
+        outside : (n : ℕ) (b : Bool) → in_use t k segment n ≡ b → in_use t k segment n ≡ false
+        outside n false e = e
+        outside n true e = let below = inside_segments n e in absurd (omega arith)
 
     pub few_buckets : (bucket : ℕ) → in_use t k segment bucket ≡ true → bucket < bucket_limit
     few_buckets bucket used =

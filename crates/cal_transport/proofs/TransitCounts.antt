@@ -15,7 +15,7 @@ use Rattle.cal_transport.proofs.Totals.{and-false, total_agree, total_append, to
 
 total_zero : {A : Type 0} (xs : List A) → total (λ x. 0) xs ≡ 0
 total_zero [] = refl
-total_zero (x ∷ xs) = total_zero xs
+total_zero (x ∷ xs) = let rest = total_zero xs in omega arith
 
 total_both : {A : Type 0} (f g : A → ℕ) (xs : List A) → total (λ x. f x + g x) xs ≡ total f xs + total g xs
 total_both f g [] = refl
@@ -36,12 +36,12 @@ length_flat_map f (x ∷ xs) =
 
 length_filter : {A : Type 0} (p : A → Bool) (xs : List A) → length (filter p xs) ≡ total (λ x. one_if (p x)) xs
 length_filter p [] = refl
-length_filter p (x ∷ xs) = by_test (p x)
+length_filter p (x ∷ xs) = by_test (p x) (length_filter p xs)
   where
-    by_test : (b : Bool) →
+    by_test : (b : Bool) → length (filter p xs) ≡ total (λ y. one_if (p y)) xs →
         length (cond b (x ∷ filter p xs) (filter p xs)) ≡ one_if b + total (λ y. one_if (p y)) xs
-    by_test true = let rest = length_filter p xs in omega arith
-    by_test false = length_filter p xs
+    by_test true rest = omega arith
+    by_test false rest = omega arith
 
 -- one number below another is hit once
 hit_below : (v : ℕ) (c : Bool) (n : ℕ) →
@@ -57,10 +57,10 @@ hit_below v c (suc n) =
     go true true d e f g = absurd (grind (arith, nat_tests))
     go true false true e f g = omega arith
     go true false false e f g = absurd (grind (arith, nat_tests))
-    go false true true e f g = refl
+    go false true true e f g = omega arith
     go false true false e f g = absurd (grind (arith, nat_tests))
     go false false true e f g = absurd (grind (arith, nat_tests))
-    go false false false e f g = refl
+    go false false false e f g = omega arith
 
 pub hit_once : (v : ℕ) (c : Bool) (n : ℕ) →
     total (λ b. one_if (nat_eq v b && c)) (numbers_below n) ≤ one_if c

@@ -36,7 +36,7 @@ filter_one p (y ∷ xs) (suc i) x e here else =
     ap (λ b. cond b (y ∷ filter p xs) (filter p xs)) (else 0 y refl (λ q. absurd (omega arith)))
     ∙ filter_one p xs i x e here (λ j z f apart. else (suc j) z f (λ q. apart (omega arith)))
 
-map_flat_map : {A B C : Type 0} (g : B → C) (f : A → List B) (xs : List A) →
+pub map_flat_map : {A B C : Type 0} (g : B → C) (f : A → List B) (xs : List A) →
     map g (flat_map f xs) ≡ flat_map (λ x. map g (f x)) xs
 map_flat_map g f [] = refl
 map_flat_map g f (x ∷ xs) =
