@@ -20,6 +20,7 @@ use Rattle.cal_transport.specs.declared.reply.Count.{Count}
 use Rattle.cal_transport.specs.Ledger.{Ledger, layout_at, current, is_unused, is_mapped, active_segments, mapped_segments, numbers_below}
 use Rattle.cal_transport.specs.Weights.{total, one_if}
 use Rattle.cal_transport.specs.Step.{count_of}
+use Rattle.cal_transport.specs.Counting.{IsCounted}
 use Rattle.cal_transport.specs.Core.{ActiveSegment}
 use Rattle.cal_transport.specs.Shown.{is_active, ShowsActive, ShowsMapped}
 use Rattle.cal_transport.specs.State.{TransportState, core_of, active_of, active_at, mapped_at, IsLinked, Represents, DoesAnywhere}
@@ -167,20 +168,10 @@ module _ (t : TransportState) (linked : IsLinked t) (l : Ledger) (r : Represents
       segment.allocator.buckets)) r.shows.current holds)
       seen.there)
 
--- what the calls tell
-pub record IsCounted (t : TransportState) (count : Count) : Type 0 where
-  pub active : count.active ≡ number_held t.memory.slots
-  pub mapped : count.mapped ≡ number_held t.view.slots
-  pub current : count.current ≡ t.memory.current
-  pub size : OfSegment t.memory_registry t.memory.slots t.memory.current
-      (λ (segment : Segment Pool). count.size ≡ segment.allocator.buckets.size)
-  pub buckets : OfSegment t.memory_registry t.memory.slots t.memory.current
-      (λ (segment : Segment Pool). count.buckets ≡ segment.allocator.buckets.count)
-
 made : ℕ → ℕ → ℕ → ℕ → ℕ → Count
 made a m c s b = record { active = a; mapped = m; current = c; size = s; buckets = b }
 
-counted : (t : TransportState) → IsLinked t → (count : Count) → IsCounted t count → (l : Ledger) → Represents t l →
+counted : (t : TransportState) → IsLinked t → (count : Count) → IsCounted t.memory_registry t.memory t.view count → (l : Ledger) → Represents t l →
     count ≡ count_of l
 unfolding made
 counted t linked count is l r =
@@ -199,7 +190,7 @@ placeless : (l : Ledger) (reply : Reply) → IsPlaceless l command.Count reply
 placeless l reply None a b = refl
 placeless l reply (Some why) a b = refl
 
-pub count_does : (t : TransportState) → IsLinked t → (count : Count) → IsCounted t count →
+pub count_does : (t : TransportState) → IsLinked t → (count : Count) → IsCounted t.memory_registry t.memory t.view count →
     DoesAnywhere t command.Count (Counted count) t
 count_does t linked count is place l r =
     stands t l command.Count (Counted count) r.place place r.sound (placeless l (Counted count))

@@ -36,3 +36,4 @@ pub mod Room
 pub mod Served
 pub mod TransitLines
 pub mod Reached
+pub mod Counting
