@@ -26,7 +26,7 @@ use Rattle.cal_transport.specs.Shown.{is_active, ShowsActive, ShowsMapped}
 use Rattle.cal_transport.specs.State.{TransportState, core_of, active_of, active_at, mapped_at, IsLinked, Represents, DoesAnywhere}
 use Rattle.cal_transport.proofs.Settled.{IsSettled, settled}
 use Rattle.cal_transport.proofs.Totals.{total_append}
-use Rattle.cal_transport.proofs.TransitCounts.{length_filter, total_places}
+use Rattle.cal_transport.proofs.ListedCounts.{length_filter, total_places}
 use Rattle.cal_transport.proofs.Segments.{of_shown}
 use Rattle.cal_transport.proofs.Seen.{is_seen}
 use Rattle.cal_transport.proofs.Fronts.{has_segment}

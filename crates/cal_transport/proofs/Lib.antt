@@ -78,7 +78,7 @@ pub mod ReceivedCode
 pub mod Lent
 pub mod ReleaseCode
 pub mod Frees
-pub mod TransitCounts
+pub mod ListedCounts
 pub mod TransitWalk
 pub mod CountStep
 pub mod TransitCode

@@ -12,7 +12,7 @@ use Rattle.cal_transport.specs.TransitLines.{line_of, lines_in, lines_on}
 use Rattle.cal_transport.proofs.Settled.{IsSettled, settled}
 use Rattle.cal_transport.proofs.Stands.{HasHistory, has_history}
 use Rattle.cal_transport.proofs.TransitCode.{none_beyond}
-use Rattle.cal_transport.proofs.TransitCounts.{lines_on_few, transit_list_few}
+use Rattle.cal_transport.proofs.ListedCounts.{lines_on_few, transit_list_few}
 use Rattle.cal_transport.proofs.TransitWalk.{map_flat_map, flat_map_next, flat_map_ends, part_few}
 
 no_longer : (xs : List Reply) → length xs ≤ 0 → xs ≡ []
