@@ -79,3 +79,5 @@ pub mod Lent
 pub mod ReleaseCode
 pub mod Frees
 mod Serving
+pub mod FreeCode
+pub mod DiscardCode

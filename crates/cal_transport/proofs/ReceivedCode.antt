@@ -175,6 +175,7 @@ module _ (t : TransportState) (linked : IsLinked t) (k : ℕ) (inside : k < t.se
         owners = linked.owners;
         tables = linked.tables;
         marks = linked.marks;
+        pairs = linked.pairs;
       }
 
       in_counts : k < length t.receiver.borrow_counts
