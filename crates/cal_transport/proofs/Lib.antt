@@ -81,3 +81,7 @@ pub mod Frees
 mod Serving
 pub mod FreeCode
 pub mod DiscardCode
+pub mod TransitCounts
+pub mod SentMarks
+pub mod ReturnedCode
+pub mod ReclaimCode
