@@ -23,7 +23,7 @@ use Rattle.cal_transport.proofs.Changed.{used_is}
 use Rattle.cal_transport.proofs.Fronts.{IsPointer, HasSegment, is_pointer, pointed_bucket, has_segment, alive_active}
 use Rattle.cal_transport.proofs.Marks.{holds_there}
 use Rattle.cal_transport.proofs.Seen.{IsSeen, is_seen}
-use Rattle.cal_transport.proofs.Segments.{from_shown}
+use Rattle.cal_transport.proofs.Segments.{of_shown, from_shown}
 use Rattle.cal_transport.proofs.Settled.{IsSettled}
 use Rattle.cal_transport.proofs.Totals.{total_least}
 
@@ -95,6 +95,13 @@ module _ (t : TransportState) (l : Ledger) (s : IsSettled l) (shows : Shows (cor
       seen.segment seen.there
       (subst (λ n. IsUsedBucket seen.segment.allocator (pointer_offset n 0)) (sym offset_is)
       (pointer_used seen.segment.allocator chunk.bucket (omega (arith, size_is)) marked)))
+
+  -- the size of its segment's buckets
+  pub bucket_size_is : (size : ℕ) → OfSegment t.memory_registry t.memory.slots chunk.segment
+      (λ (segment : Segment Pool). size ≡ segment.allocator.buckets.size) → size ≡ (layout_at l chunk.segment).size
+  bucket_size_is size told =
+      of_shown t.memory_registry t.memory.slots chunk.segment
+      (λ (segment : Segment Pool). size ≡ segment.allocator.buckets.size) seen.segment told seen.there ∙ size_is
 
   -- what the call says of the chunk's bucket
   pub freed_here : (kept : Bool) (registry : Contents (Segment Pool)) (memory : MemoryState) →

@@ -85,3 +85,7 @@ pub mod TransitCounts
 pub mod SentMarks
 pub mod ReturnedCode
 pub mod ReclaimCode
+pub mod SendRefusals
+pub mod SendCode
+pub mod SentAnswers
+pub mod SentCode
