@@ -89,3 +89,4 @@ pub mod SendRefusals
 pub mod SendCode
 pub mod SentAnswers
 pub mod SentCode
+pub mod OverflowCode
