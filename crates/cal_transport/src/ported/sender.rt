@@ -8,7 +8,7 @@ ghost use Rattle.cal_transport.specs.Sample.{AnswersSample};
 use crate::ported::chunk_entry::{ChunkEntry, Found, find_entry};
 use crate::ported::pointing::{pointed_entry, pointer_at};
 use crate::ported::sharing::free_unless;
-use crate::ported::taking_back::{count_less, count_more, put_entry, take_back};
+use crate::ported::taking_back::{count_less, count_more, end_loan, enter_channel, leave_channel, slot_at};
 use crate::ported::transport::Transport;
 use crate::reply::{Refusal, Slot};
 use cal_alloc::{PointerOffset, SegmentId};
@@ -16,6 +16,7 @@ use cal_connection::{ChannelId, ZeroCopySender};
 use cal_resizable::SegmentsHolder;
 
 /// A chunk that may be sent: its entry, its pointer, and the size in bytes of its bucket.
+#[derive(Drop)]
 pub(crate) struct Sample {
     /// The chunk's entry.
     pub(crate) found: Found,
@@ -32,33 +33,25 @@ impl Transport {
         ensures step { SendDoes self.old channel chunk result self.new }
         ensures room { TakesRoomOfOne self.old self.new }
     {
-        let Sample {
-            found,
-            pointer,
-            size,
-        } = match self.sample_to_send(channel, chunk) {
+        let sample = match self.sample_to_send(channel, chunk) {
             Ok(sample) => sample,
             Err(refusal) => return Err(refusal),
         };
+        let channel_id = ChannelId::new(channel);
         let answer = self.sender.try_send(
             &mut self.connection_registry,
-            pointer,
-            size,
-            ChannelId::new(channel),
+            sample.pointer,
+            sample.size,
+            channel_id,
         );
         let back = match answer {
             Ok(back) => back,
             Err(_) => return Err(Refusal::ReceiveBufferFull),
         };
-        let sent = ChunkEntry {
-            sent: true,
-            transits: found.entry.transits + 1,
-            ..found.entry
-        };
         let oldest = match back {
             Some(oldest) => oldest,
             None => {
-                put_entry(&mut self.entries, found.index, sent);
+                enter_channel(&mut self.entries, sample.found);
                 count_more(&mut self.transits, channel);
                 self.in_transit += 1;
                 return Ok(None);
@@ -71,15 +64,16 @@ impl Transport {
             &self.memory_registry,
             oldest,
         );
-        put_entry(&mut self.entries, found.index, sent);
-        Ok(Some(take_back(
-            leaving,
-            oldest,
-            &mut self.entries,
+        enter_channel(&mut self.entries, sample.found);
+        let kept = leave_channel(&mut self.entries, leaving);
+        free_unless(
+            kept,
             &mut self.memory,
             &self.view,
             &mut self.memory_registry,
-        )))
+            oldest,
+        );
+        Ok(Some(slot_at(leaving.entry, oldest)))
     }
 
     /// The chunk of that name, if it may be sent on a channel where there is room; else why not.
@@ -109,13 +103,11 @@ impl Transport {
             &self.memory_registry,
             SegmentId::new(found.entry.segment),
         );
-        let used = self.sender.is_in_use(
-            &self.connection_registry,
-            pointer,
-            size,
-            ChannelId::new(channel),
-        );
-        if used {
+        let channel_id = ChannelId::new(channel);
+        if self
+            .sender
+            .is_in_use(&self.connection_registry, pointer, size, channel_id)
+        {
             return Err(Refusal::AlreadyInTransit);
         }
         Ok(Sample {
@@ -166,17 +158,17 @@ impl Transport {
             &self.memory_registry,
             pointer,
         );
-        let slot = take_back(
-            found,
-            pointer,
-            &mut self.entries,
+        let kept = leave_channel(&mut self.entries, found);
+        free_unless(
+            kept,
             &mut self.memory,
             &self.view,
             &mut self.memory_registry,
+            pointer,
         );
         count_less(&mut self.transits, channel);
         self.in_transit -= 1;
-        Ok(Some(slot))
+        Ok(Some(slot_at(found.entry, pointer)))
     }
 
     /// Ends the loan of a chunk.
@@ -204,11 +196,7 @@ impl Transport {
             &mut self.memory_registry,
             pointer,
         );
-        let ended = ChunkEntry {
-            loaned: false,
-            ..found.entry
-        };
-        put_entry(&mut self.entries, found.index, ended);
+        end_loan(&mut self.entries, found);
         Ok(())
     }
 }
