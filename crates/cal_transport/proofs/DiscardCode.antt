@@ -27,7 +27,7 @@ use Rattle.cal_transport.proofs.Represented.{IsPlaceless, stands}
 use Rattle.cal_transport.proofs.Changed.{live_is}
 use Rattle.cal_transport.proofs.Finding.{IsChunk, found_chunk, found_none, loaned_is, unloaned_is, unnamed_is}
 use Rattle.cal_transport.proofs.FreeCode.{is_out, is_used_bucket, freed_here, gives}
-use Rattle.cal_transport.proofs.ReleaseCode.{PlaceOf, place_of}
+use Rattle.cal_transport.proofs.Placed.{PlaceOf, place_of}
 use Rattle.cal_transport.proofs.Stands.{Steps}
 use Rattle.cal_transport.proofs.DiscardStep.{First, DiscardsAt, first_channel, discards, discard_refused}
 

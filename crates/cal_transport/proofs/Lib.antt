@@ -90,3 +90,4 @@ pub mod SendCode
 pub mod SentAnswers
 pub mod SentCode
 pub mod OverflowCode
+pub mod Placed

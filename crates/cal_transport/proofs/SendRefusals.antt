@@ -33,7 +33,7 @@ use Rattle.cal_transport.proofs.FreeCode.{bucket_size_is}
 use Rattle.cal_transport.proofs.Fronts.{IsPointer, is_pointer}
 use Rattle.cal_transport.proofs.Marks.{own_transit}
 use Rattle.cal_transport.proofs.PortCalls.{sender_channels}
-use Rattle.cal_transport.proofs.ReleaseCode.{PlaceOf, place_of}
+use Rattle.cal_transport.proofs.Placed.{PlaceOf, place_of}
 use Rattle.cal_transport.proofs.Stands.{HasHistory, has_history, Steps}
 use Rattle.cal_transport.proofs.SendStep.{MaySend}
 use Rattle.cal_transport.proofs.SendAnswers.{IsInside, send_unloaned, send_outside, send_again}
