@@ -1,17 +1,17 @@
 -- A send that takes the oldest back, from what the calls on the port, the memory and the tables say: the oldest leaves the
 -- state in which the chunk has joined the queue.
-use Rattle.std.proofs.Common.{ℕ, ◌+◌, ◌-◌, ◌/◌, ◌<◌, ◌≡◌, ◌≢◌, Bool, true, false, ◌||◌, nat_lt, List, [], length, drop, set, get_or, Option, Some, None, Result, Ok, refl, sym, ap, ◌∙◌, subst, arith}
+use Rattle.std.proofs.Common.{ℕ, ◌+◌, ◌-◌, ◌/◌, ◌<◌, ◌≡◌, ◌≢◌, Bool, true, false, ◌||◌, nat_lt, List, [], length, drop, set, get_or, Some, Ok, refl, sym, ap, ◌∙◌, subst, arith}
 use Rattle.std.specs.List.{slice_get}
 use Rattle.std.proofs.lemmas.Bool.{true≢false}
-use Rattle.std.proofs.lemmas.List.{get_or-set_same, get_or-set_other, length-set}
-use Rattle.std.proofs.lemmas.Option.{same_Some, slice_get_within}
+use Rattle.std.proofs.lemmas.List.{get_or-set_same, get_or-set_other}
+use Rattle.std.proofs.lemmas.Option.{slice_get_within}
 use Rattle.cal_alloc.specs.Pool.{Pool, IsUsedBucket}
 use Rattle.cal_alloc.specs.PointerOffset.{offset_of, segment_of, pointer_offset}
 use Rattle.cal_queue.specs.Queue.{after_pop, after_push, is_full, overflow_of}
 use Rattle.cal_storage.specs.Contents.{Contents}
 use Rattle.cal_shm.specs.Segment.{Segment}
 use Rattle.cal_connection.specs.declared.errors.ZeroCopySendError.TheVariants as error
-use Rattle.cal_connection.specs.Channel.{ChannelEntry, is_refused, return_answer, with_entry, after_return, after_send, shape}
+use Rattle.cal_connection.specs.Channel.{ChannelEntry, is_refused, return_answer, after_return, after_send, shape}
 use Rattle.cal_connection.specs.ShapeLemmas.{shape-after_send}
 use Rattle.cal_connection.specs.Port.{PortEntry, SenderEnd, channel_of, with_channel_of}
 use Rattle.cal_resizable.specs.Chunks.{segment_value}
@@ -30,7 +30,7 @@ use Rattle.cal_transport.specs.Sharing.{FreesUnless}
 use Rattle.cal_transport.specs.Shown.{entry_of}
 use Rattle.cal_transport.specs.Weights.{one_if, transits}
 use Rattle.cal_transport.specs.State.{TransportState, core_of, LinksPorts, IsLinked, Represents, DoesAnywhere}
-use Rattle.cal_transport.proofs.Settled.{IsSettled, settled}
+use Rattle.cal_transport.proofs.Settled.{settled}
 use Rattle.cal_transport.proofs.PortCalls.{channel_here, channel_else, links_after}
 use Rattle.cal_transport.proofs.Represented.{stands}
 use Rattle.cal_transport.proofs.Changed.{transit_lives, transits_else}

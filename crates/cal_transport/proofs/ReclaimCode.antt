@@ -28,10 +28,10 @@ use Rattle.cal_transport.specs.declared.ported.chunk_entry.Found.{Found}
 use Rattle.cal_transport.specs.Ledger.{Ledger, layout_at, is_live, is_in_transit, completed_names}
 use Rattle.cal_transport.specs.Pointed.{PointsTo}
 use Rattle.cal_transport.specs.Sharing.{FreesUnless}
-use Rattle.cal_transport.specs.Shown.{pointer_to, entry_of}
+use Rattle.cal_transport.specs.Shown.{entry_of}
 use Rattle.cal_transport.specs.Weights.{one_if, transits}
 use Rattle.cal_transport.specs.State.{TransportState, core_of, LinksPorts, IsLinked, Represents, DoesAnywhere}
-use Rattle.cal_transport.proofs.Settled.{IsSettled, settled}
+use Rattle.cal_transport.proofs.Settled.{settled}
 use Rattle.cal_transport.proofs.PortCalls.{channel_here, channel_else, links_after}
 use Rattle.cal_transport.proofs.Represented.{IsPlaceless, stands}
 use Rattle.cal_transport.proofs.Changed.{transit_lives}
@@ -350,7 +350,11 @@ module _ (t : TransportState) (linked : IsLinked t) (k : ℕ) (inside : k < t.se
               chunk = found.entry.name;
               segment = segment_of pointer;
               place = offset_of pointer;
-            }))) r.place place r.sound (placeless l _)
+            }))) r.place place r.sound (placeless l (Reclaimed (Some (record {
+              chunk = found.entry.name;
+              segment = segment_of pointer;
+              place = offset_of pointer;
+            }))))
             (λ any. subst (λ n. Steps (core_of reclaimed) l any (command.Reclaim k) (Reclaimed (Some (record {
               chunk = n;
               segment = segment_of pointer;

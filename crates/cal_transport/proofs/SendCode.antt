@@ -1,16 +1,13 @@
 -- A send, from what the calls on the port and the tables say: the state in which the chunk has joined the queue, which is
 -- the one after a send with room, and from which the oldest leaves by overflow.
-use Rattle.std.proofs.Common.{ℕ, ◌+◌, ◌*◌, ◌/◌, ◌^◌, ◌<◌, ◌≤◌, ◌≡◌, ◌≢◌, Bool, true, false, cond, not, ◌&&◌, nat_eq, nat_le, List, [], ◌∷◌, ◌++◌, length, set, get_or, Option, Some, None, Result, Ok, Err, refl, sym, ap, ◌∙◌, subst, arith}
-use Rattle.std.specs.List.{slice_get}
+use Rattle.std.proofs.Common.{ℕ, ◌+◌, ◌*◌, ◌^◌, ◌<◌, ◌≤◌, ◌≡◌, Bool, true, false, nat_eq, nat_le, [], ◌∷◌, ◌++◌, length, set, get_or, Some, None, refl, sym, ap, ◌∙◌, subst, arith}
 use Rattle.std.proofs.Math.Nat.{mul-le-mul_left}
-use Rattle.std.proofs.lemmas.Bool.Decides.{nat_tests}
+use Rattle.std.proofs.lemmas.Bool.{eqb-true, eqb-false}
 use Rattle.std.proofs.lemmas.List.{get_or-set_same, get_or-set_other, length-set, length-map}
 use Rattle.cal_queue.specs.Queue.{after_push, is_full}
-use Rattle.cal_queue.specs.UsedChunks.{capacity_of}
-use Rattle.cal_storage.specs.Contents.{Contents}
 use Rattle.cal_connection.specs.declared.settings.ConnectionSettings.{ConnectionSettings}
-use Rattle.cal_connection.specs.Channel.{ChannelEntry, Shape, segment_at, with_entry, shape}
-use Rattle.cal_connection.specs.Port.{PortEntry, SenderEnd, port_at, channel_of, with_channel_of, settings_at}
+use Rattle.cal_connection.specs.Channel.{ChannelEntry, Shape, with_entry, shape}
+use Rattle.cal_connection.specs.Port.{port_at, channel_of, with_channel_of, settings_at}
 use Rattle.cal_connection.specs.PortLemmas.{length-segments, samples-segment_at}
 use Rattle.cal_connection.specs.ShapeLemmas.{samples-with_entry}
 use Rattle.cal_transport.specs.declared.command.Command.TheVariants as command
@@ -21,15 +18,16 @@ use Rattle.cal_transport.specs.declared.ported.sender.Sample.{Sample}
 use Rattle.cal_transport.specs.Ledger.{Ledger, layout_at, queued_names}
 use Rattle.cal_transport.specs.Cause.{is_buffer_full}
 use Rattle.cal_transport.specs.Sample.{IsSample}
-use Rattle.cal_transport.specs.Weights.{transits, transits_in}
-use Rattle.cal_transport.specs.Shown.{pointer_to, pointer_named, entry_of}
-use Rattle.cal_transport.specs.State.{TransportState, core_of, LinksPorts, IsLinked, Represents}
-use Rattle.cal_transport.proofs.Settled.{IsSettled, settled}
+use Rattle.cal_transport.specs.Weights.{transits}
+use Rattle.cal_transport.specs.Shown.{pointer_to, pointer_named}
+use Rattle.cal_transport.specs.State.{TransportState, core_of, IsLinked, Represents}
+use Rattle.cal_transport.proofs.Settled.{settled}
+use Rattle.cal_transport.proofs.Changing.{le_true, le_false}
 use Rattle.cal_transport.proofs.Finding.{IsChunk}
 use Rattle.cal_transport.proofs.PortCalls.{sender_channels, channel_here, channel_else, links_after}
 use Rattle.cal_transport.proofs.Represented.{IsPlaceless}
 use Rattle.cal_transport.proofs.Marks.{mark_below}
-use Rattle.cal_transport.proofs.SendRefusals.{of, has, send_pointer, send_size, send_lies, send_bucket, send_within, send_inside, may_send_it}
+use Rattle.cal_transport.proofs.SendRefusals.{of, has, send_pointer, send_size, send_lies, send_bucket, may_send_it}
 use Rattle.cal_transport.proofs.SendStep.{MaySend, Marks, SendsAt}
 use Rattle.cal_transport.proofs.SentMarks.{marks}
 use Rattle.cal_transport.proofs.Stands.{HasHistory}
@@ -39,7 +37,11 @@ use Rattle.cal_transport.proofs.TransitCounts.{few_channels, few_in_transit, few
 same_full : (long capacity queued buffer : ℕ) → long ≡ queued → capacity ≡ buffer → queued ≤ buffer →
     nat_eq long capacity ≡ nat_le buffer queued
 same_full long capacity queued buffer a b most =
-    ap (λ n. nat_eq n capacity) a ∙ ap (nat_eq queued) b ∙ (grind (arith, nat_tests))
+    ap (λ n. nat_eq n capacity) a ∙ ap (nat_eq queued) b ∙ go (nat_eq queued buffer) refl
+  where
+    go : (c : Bool) → nat_eq queued buffer ≡ c → nat_eq queued buffer ≡ nat_le buffer queued
+    go true e = let same = eqb-true queued buffer e in e ∙ sym (le_true buffer queued (omega arith))
+    go false e = let apart = eqb-false queued buffer e in e ∙ sym (le_false buffer queued (omega (arith, apart)))
 
 module _ (t : TransportState) (linked : IsLinked t) (k name : ℕ) (sample : Sample) (is : IsSample t k name sample) where
   abbrev pub ch : ChannelEntry

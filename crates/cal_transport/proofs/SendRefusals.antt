@@ -1,14 +1,14 @@
 -- What a send finds of a chunk before it calls the port: why it is refused, and where else it lies.
-use Rattle.std.proofs.Common.{ℕ, ◌*◌, ◌/◌, ◌%◌, ◌<◌, ◌≤◌, ◌≡◌, Bool, true, false, ◌&&◌, ◌||◌, nat_le, nat_lt, Option, Some, None, refl, sym, ap, ◌∙◌, subst, arith}
+use Rattle.std.proofs.Common.{ℕ, ◌*◌, ◌/◌, ◌%◌, ◌<◌, ◌≤◌, ◌≡◌, Bool, true, false, ◌&&◌, ◌||◌, nat_le, nat_lt, Some, None, refl, sym, ap, ◌∙◌, subst, arith}
 use Rattle.std.proofs.Math.Nat.{mul-div_cancel, mul-mod_left}
-use Rattle.std.proofs.lemmas.Bool.{true≢false, or_left, or_right}
+use Rattle.std.proofs.lemmas.Bool.{or_left, or_right}
 use Rattle.std.proofs.lemmas.Bool.Decides.{nat_tests}
 use Rattle.cal_alloc.specs.Pool.{Pool}
 use Rattle.cal_alloc.specs.PointerOffset.{offset_of, segment_of, pointer_offset}
 use Rattle.cal_shm.specs.Segment.{Segment}
 use Rattle.cal_connection.specs.declared.settings.ConnectionSettings.{ConnectionSettings}
-use Rattle.cal_connection.specs.Channel.{ChannelEntry, is_used}
-use Rattle.cal_connection.specs.Port.{port_at, channel_of, settings_at, is_in_use, IsWithin}
+use Rattle.cal_connection.specs.Channel.{is_used}
+use Rattle.cal_connection.specs.Port.{port_at, channel_of, is_in_use, IsWithin}
 use Rattle.cal_resizable.specs.Growth.{OfSegment}
 use Rattle.cal_transport.specs.declared.command.Command.TheVariants as command
 use Rattle.cal_transport.specs.declared.settings.Settings.{Settings}
@@ -17,14 +17,14 @@ use Rattle.cal_transport.specs.declared.reply.Reply.TheVariants.{Refused}
 use Rattle.cal_transport.specs.declared.reply.Refusal.TheVariants as refusal
 use Rattle.cal_transport.specs.declared.ported.chunk_entry.ChunkEntry.{ChunkEntry}
 use Rattle.cal_transport.specs.declared.ported.chunk_entry.Found.{Found}
-use Rattle.cal_transport.specs.Ledger.{Ledger, Chunk, loaned_chunk, layout_at, is_live, is_in_transit}
+use Rattle.cal_transport.specs.Ledger.{Ledger, loaned_chunk, layout_at, is_live, is_in_transit}
 use Rattle.cal_transport.specs.Cause.{is_channel_outside, is_bucket_outside}
 use Rattle.cal_transport.specs.ChunkEntry.{HasNoEntry, IsFound}
 use Rattle.cal_transport.specs.Pointed.{HasPlace}
 use Rattle.cal_transport.specs.Weights.{transits}
-use Rattle.cal_transport.specs.Shown.{pointer_to, entry_of}
+use Rattle.cal_transport.specs.Shown.{pointer_to}
 use Rattle.cal_transport.specs.State.{TransportState, core_of, IsLinked, Represents, DoesAnywhere}
-use Rattle.cal_transport.proofs.Settled.{IsSettled, settled}
+use Rattle.cal_transport.proofs.Settled.{settled}
 use Rattle.cal_transport.proofs.Represented.{IsPlaceless, stands}
 use Rattle.cal_transport.proofs.Changing.{le_true}
 use Rattle.cal_transport.proofs.Changed.{live_is}
@@ -194,7 +194,7 @@ module _ (t : TransportState) (k name : ℕ) where
             }
 
         -- its mark tells whether it is in transit on the channel
-        mark_tells : (l : Ledger) (r : Represents t l) →
+        pub mark_tells : (l : Ledger) (r : Represents t l) →
             is_in_use (port_at t.connection_registry t.sender.handle) k pointer size
             ≡ is_in_transit (has l r).history (of l r).chunk.name
         mark_tells l r =
@@ -215,7 +215,7 @@ module _ (t : TransportState) (k name : ℕ) where
             (send_again (core_of t) l any k (has l r).history (of l r).chunk r.shows r.tracks (has l r).on
             (is_loaned l r) (send_inside l r) (sym (mark_tells l r) ∙ used)))
 
-        pub may_send_it : is_in_use (port_at t.connection_registry t.sender.handle) k pointer size ≡ false →
+        abbrev pub may_send_it : is_in_use (port_at t.connection_registry t.sender.handle) k pointer size ≡ false →
             (l : Ledger) (r : Represents t l) → MaySend l (has l r).history
         may_send_it unused l r = record {
           index = found.index;

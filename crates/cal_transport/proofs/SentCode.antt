@@ -1,5 +1,5 @@
 -- A send by the port's answers: refused for want of room, or queued where there is some.
-use Rattle.std.proofs.Common.{ℕ, ◌+◌, ◌≤◌, ◌≡◌, Bool, true, false, not, ◌&&◌, List, set, get_or, Option, Some, None, Result, Ok, Err, refl, sym, ap, ◌∙◌, subst, arith}
+use Rattle.std.proofs.Common.{ℕ, ◌+◌, ◌≤◌, ◌≡◌, Bool, true, false, not, ◌&&◌, List, set, get_or, Option, Some, None, Result, Ok, Err, sym, ap, ◌∙◌, subst, arith}
 use Rattle.std.specs.List.{slice_get}
 use Rattle.cal_queue.specs.Queue.{is_full, overflow_of}
 use Rattle.cal_storage.specs.Contents.{Contents}
@@ -18,7 +18,7 @@ use Rattle.cal_transport.specs.Ledger.{Ledger, layout_at, queued_names}
 use Rattle.cal_transport.specs.Cause.{cause, is_buffer_full}
 use Rattle.cal_transport.specs.Sample.{IsSample}
 use Rattle.cal_transport.specs.State.{TransportState, core_of, IsLinked, Represents, DoesAnywhere}
-use Rattle.cal_transport.proofs.Settled.{IsSettled, settled}
+use Rattle.cal_transport.proofs.Settled.{settled}
 use Rattle.cal_transport.proofs.Represented.{stands}
 use Rattle.cal_transport.proofs.Fronts.{IsFront}
 use Rattle.cal_transport.proofs.ReceiveStep.{queue_front}

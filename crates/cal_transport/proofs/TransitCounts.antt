@@ -1,9 +1,9 @@
 -- How many chunks are in transit at most: those on their way lie in different buckets that the connection can name, and
 -- each is counted once for a channel.
-use Rattle.std.proofs.Common.{ℕ, zero, suc, ◌+◌, ◌*◌, ◌<◌, ◌≤◌, ◌≡◌, Bool, true, false, cond, ◌&&◌, nat_eq, nat_lt, List, [], ◌∷◌, length, Some, refl, sym, ap, ◌∙◌, subst, arith}
+use Rattle.std.proofs.Common.{ℕ, zero, suc, ◌+◌, ◌*◌, ◌≤◌, ◌≡◌, Bool, true, false, ◌&&◌, nat_eq, nat_lt, List, [], ◌∷◌, length, Some, refl, sym, ap, ◌∙◌, arith}
 use Rattle.std.specs.List.{slice_get}
 use Rattle.std.proofs.Math.Nat.{mul-le-mul_left}
-use Rattle.std.proofs.lemmas.Bool.{true≢false, and_parts, or_right, eqb-true, lt-ltb}
+use Rattle.std.proofs.lemmas.Bool.{true≢false, and_parts, or_right, eqb-true, eq-eqb, ltb-true, ltb-false, lt-ltb}
 use Rattle.std.proofs.lemmas.Bool.Decides.{nat_tests}
 use Rattle.cal_transport.specs.Ledger.{Ledger, Chunk, ChannelHistory, is_live, is_in_transit}
 use Rattle.cal_transport.specs.Weights.{total, one_if, transits, transits_on, transits_in}
@@ -47,12 +47,12 @@ PassesOnce {A} test xs = (i j : ℕ) (x y : A) → slice_get xs i ≡ Some x →
     test y ≡ true → i ≡ j
 
 total_once : {A : Type 0} (test : A → Bool) (xs : List A) → PassesOnce test xs → total (λ x. one_if (test x)) xs ≤ 1
-total_once test [] once = omega arith
-total_once test (x ∷ xs) once = go (test x) refl
+total_once {A} test [] once = omega arith
+total_once {A} test (x ∷ xs) once = go (test x) refl
     (total_once test xs (λ i j y z first second a b. (let e = once (suc i) (suc j) y z first second a b in omega
     arith)))
   where
-    dead : test x ≡ true → (j : ℕ) (y : _) → slice_get xs j ≡ Some y → (b : Bool) → test y ≡ b → one_if b ≡ 0
+    dead : test x ≡ true → (j : ℕ) (y : A) → slice_get xs j ≡ Some y → (b : Bool) → test y ≡ b → one_if b ≡ 0
     dead first j y there false e = refl
     dead first j y there true e = absurd (let apart = once 0 (suc j) x y refl there first e in omega arith)
 
@@ -67,8 +67,11 @@ total_once test (x ∷ xs) once = go (test x) refl
 
 one_more : (b : Bool) (mark n : ℕ) →
     one_if (b && nat_lt mark (suc n)) ≡ one_if (b && nat_lt mark n) + one_if (b && nat_eq mark n)
-one_more true mark n = go (nat_lt mark (suc n)) (nat_lt mark n) (nat_eq mark n) (grind (arith, nat_tests))
-    (grind (arith, nat_tests)) (grind (arith, nat_tests)) (grind (arith, nat_tests))
+one_more true mark n = go (nat_lt mark (suc n)) (nat_lt mark n) (nat_eq mark n)
+    (λ e. (let below = ltb-true mark n e in lt-ltb mark (suc n) (omega arith)))
+    (λ e. (let same = eqb-true mark n e in lt-ltb mark (suc n) (omega arith)))
+    (λ a b. (let below = ltb-true mark n a in let same = eqb-true mark n b in omega arith))
+    (λ a b. (let below = ltb-true mark (suc n) a in let past = ltb-false mark n b in eq-eqb mark n (omega arith)))
   where
     go : (p q r : Bool) → (q ≡ true → p ≡ true) → (r ≡ true → p ≡ true) → (q ≡ true → r ≡ true → ⊥) →
         (p ≡ true → q ≡ false → r ≡ true) → one_if p ≡ one_if q + one_if r
@@ -145,7 +148,7 @@ module _ (l : Ledger) (s : IsSettled l) where
 
   counted : (n : ℕ) → n ≤ l.settings.channels → (b : Bool) → nat_lt 0 n ≡ b → n ≤ l.settings.channels * one_if b
   counted n few true e = omega arith
-  counted n few false e = let none : n ≡ 0 = grind (arith, nat_tests) in omega arith
+  counted n few false e = let none = ltb-false 0 n e in omega arith
 
   pub few_in_transit : transits_in l ≤ l.settings.channels * (l.settings.segments * l.settings.samples)
   few_in_transit =

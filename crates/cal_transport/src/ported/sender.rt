@@ -103,10 +103,10 @@ impl Transport {
             &self.memory_registry,
             SegmentId::new(found.entry.segment),
         );
-        let channel_id = ChannelId::new(channel);
+        let sent_on = ChannelId::new(channel);
         if self
             .sender
-            .is_in_use(&self.connection_registry, pointer, size, channel_id)
+            .is_in_use(&self.connection_registry, pointer, size, sent_on)
         {
             return Err(Refusal::AlreadyInTransit);
         }

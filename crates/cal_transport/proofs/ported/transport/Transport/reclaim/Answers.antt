@@ -1,4 +1,4 @@
-use Rattle.std.proofs.Common.{◌≡◌, ◌<◌, ◌-◌, ◌/◌, ◌∙◌, ℕ, Option, Some, None, Result, Ok, Err, vec_len, vec_capacity, get_or, length-set, sym, ap, subst, arith}
+use Rattle.std.proofs.Common.{◌≡◌, ◌-◌, ◌/◌, ◌∙◌, ℕ, Option, Some, None, Result, Ok, Err, vec_len, vec_capacity, sym, ap, subst, arith}
 use Rattle.cal_alloc.specs.PointerOffset.{offset_of, segment_of}
 use Rattle.cal_alloc.specs.Pool.{Pool}
 use Rattle.cal_storage.specs.Contents.{Contents}

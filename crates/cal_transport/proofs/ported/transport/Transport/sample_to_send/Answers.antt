@@ -1,7 +1,6 @@
-use Rattle.std.proofs.Common.{◌≡◌, ◌<◌, ◌≤◌, ◌*◌, ◌∙◌, ◌&&◌, nat_lt, ℕ, IsSome, sym, ap, subst}
+use Rattle.std.proofs.Common.{◌≡◌, ◌<◌, ◌∙◌, ◌&&◌, nat_lt, ℕ, true, IsSome, sym, ap, subst}
 use Rattle.std.proofs.lemmas.Bool.{and_parts, ltb-true}
 use Rattle.cal_alloc.specs.Pool.{Pool}
-use Rattle.cal_alloc.specs.PointerOffset.{pointer_offset}
 use Rattle.cal_shm.specs.Segment.{Segment}
 use Rattle.cal_connection.specs.Port.{port_at, is_in_use, IsWithin}
 use Rattle.cal_resizable.specs.Growth.{OfSegment}
@@ -91,7 +90,7 @@ is_in_use-requires-clause-within c =
     (λ (s : Segment Pool). c.bucket_size-size.result ≡ s.allocator.buckets.size)) c.new.ensures.value
     c.bucket_size-size.ensures.size in
     subst (λ n. IsWithin (port_at c.self.inside.connection_registry c.self.inside.sender.handle) n
-    c.pointer_at-pointer.result c.bucket_size-size.result) (sym c.new-channel_id.ensures.value)
+    c.pointer_at-pointer.result c.bucket_size-size.result) (sym c.new-sent_on.ensures.value)
     (send_within (state_of c.self.inside) c.args.channel c.args.chunk c.in-Some.found is c.if-not-found.false
     c.self.invariant.linked c.if-channel-self.false both.0 both.1 c.pointer_at-pointer.result
     c.bucket_size-size.result c.pointer_at-pointer.ensures.pointer size
@@ -106,7 +105,7 @@ returns-then-is_in_use c =
     (λ (s : Segment Pool). c.bucket_size-size.result ≡ s.allocator.buckets.size)) c.new.ensures.value
     c.bucket_size-size.ensures.size in
     let used = ap (λ n. is_in_use (port_at c.self.inside.connection_registry c.self.inside.sender.handle) n
-    c.pointer_at-pointer.result c.bucket_size-size.result) (sym c.new-channel_id.ensures.value)
+    c.pointer_at-pointer.result c.bucket_size-size.result) (sym c.new-sent_on.ensures.value)
     ∙ sym c.is_in_use.ensures.value ∙ c.if-is_in_use.true in
     record {
       sample = subst (λ t. DoesAnywhere t (command.Send c.args.channel c.args.chunk)
@@ -125,7 +124,7 @@ returns c =
     (λ (s : Segment Pool). c.bucket_size-size.result ≡ s.allocator.buckets.size)) c.new.ensures.value
     c.bucket_size-size.ensures.size in
     let unused = ap (λ n. is_in_use (port_at c.self.inside.connection_registry c.self.inside.sender.handle) n
-    c.pointer_at-pointer.result c.bucket_size-size.result) (sym c.new-channel_id.ensures.value)
+    c.pointer_at-pointer.result c.bucket_size-size.result) (sym c.new-sent_on.ensures.value)
     ∙ sym c.is_in_use.ensures.value ∙ c.if-is_in_use.false in
     record {
       sample = subst (λ t. IsSample t c.args.channel c.args.chunk (record {
