@@ -13,10 +13,10 @@ use Rattle.cal_transport.specs.State.{TransportState, DoesAnywhere}
 
 -- The entry of that name is of a loaned chunk, which the connection can name and which isn't in use on the channel. The
 -- pointer and the size are those of its bucket.
-pub record IsSample (t : TransportState) (channel name : ℕ) (sample : Sample) : Type 0 where
+pub record IsSample (t : TransportState) (k name : ℕ) (sample : Sample) : Type 0 where
   pub found : IsFound t.entries name sample.found
   pub loaned : sample.found.entry.loaned ≡ true
-  pub channel : channel < t.settings.channels
+  pub channel : k < t.settings.channels
   pub segment : sample.found.entry.segment < t.settings.segments
   pub bucket : sample.found.entry.bucket < t.settings.samples
   pub pointer : (p : HasPlace t.memory_registry t.memory sample.found.entry.segment sample.found.entry.bucket) →
@@ -24,7 +24,7 @@ pub record IsSample (t : TransportState) (channel name : ℕ) (sample : Sample) 
       ≡ pointer_offset (sample.found.entry.bucket * p.segment.allocator.buckets.size) sample.found.entry.segment
   pub size : OfSegment t.memory_registry t.memory.slots sample.found.entry.segment
       (λ segment. sample.size ≡ segment.allocator.buckets.size)
-  pub unused : is_in_use (port_at t.connection_registry t.sender.handle) channel sample.pointer sample.size ≡ false
+  pub unused : is_in_use (port_at t.connection_registry t.sender.handle) k sample.pointer sample.size ≡ false
 
 -- whichever ledger the transport stands for, a refusal answers a send there
 abbrev pub AnswersSample : TransportState → ℕ → ℕ → Result Sample Refusal → Type 0

@@ -107,8 +107,9 @@ leave_channel-kept-requires-clause-index c =
     (owners_of c.deref-2.result.now (segment_of c.in-Some.pointer)) c.in-Some.pointer) →
     (c.pointed_entry-found.result.index ≡ p.index) × (c.pointed_entry-found.result.entry ≡ p.entry))
     c.deref.ensures.value c.pointed_entry-found.ensures.found) in
-    found_index (state_of c.self.inside) c.self.invariant.linked c.args.channel c.if-channel-self.false
-    c.in-Some.pointer c.reclaim-answer.new.reg c.reclaim-answer.new.self call c.pointed_entry-found.result found c.self.invariant.ledger c.self.invariant.represents
+    let within = found_index (state_of c.self.inside) c.self.invariant.linked c.args.channel c.if-channel-self.false
+    c.in-Some.pointer c.reclaim-answer.new.reg c.reclaim-answer.new.self call c.pointed_entry-found.result found c.self.invariant.ledger c.self.invariant.represents in
+    omega (arith, c.self.inside.entries.ok.0)
 
 pub leave_channel-kept-requires-clause-transit : goal.leave_channel-kept-requires-clause-transit
 leave_channel-kept-requires-clause-transit c =

@@ -12,6 +12,7 @@ use Rattle.cal_transport.specs.ChunkEntry.{AreRising, HasNoEntry, IsFound}
 use Rattle.cal_transport.specs.Sample.{IsSample}
 use Rattle.cal_transport.specs.State.{core_of, DoesAnywhere}
 use Rattle.cal_transport.specs.StateOf.{state_of}
+use Rattle.cal_transport.proofs.Changing.{not_true, not_false}
 use Rattle.cal_transport.proofs.Finding.{entries_rise}
 use Rattle.cal_transport.proofs.Segments.{shown_held}
 use Rattle.cal_transport.proofs.SendRefusals.{send_unknown_does, send_unloaned_does, send_no_channel_does, send_unnamable_does, send_place, send_within, send_again_does}
@@ -43,7 +44,7 @@ returns-then-not-found c =
       sample = subst (λ t. DoesAnywhere t (command.Send c.args.channel c.args.chunk) (Refused refusal.NotLoaned) t)
           c.self.view_is
           (send_unloaned_does (state_of c.self.inside) c.args.channel c.args.chunk c.in-Some.found is
-          c.if-not-found.true);
+          (not_true c.in-Some.found.entry.loaned c.if-not-found.true));
     }
 
 pub returns-then-channel-self : goal.returns-then-channel-self
@@ -53,7 +54,7 @@ returns-then-channel-self c =
       sample = subst (λ t. DoesAnywhere t (command.Send c.args.channel c.args.chunk)
           (Refused refusal.OutsideConnection) t) c.self.view_is
           (send_no_channel_does (state_of c.self.inside) c.args.channel c.args.chunk c.in-Some.found is
-          c.if-not-found.false c.if-channel-self.true);
+          (not_false c.in-Some.found.entry.loaned c.if-not-found.false) c.if-channel-self.true);
     }
 
 pub returns-then-not-is_within : goal.returns-then-not-is_within
@@ -63,20 +64,20 @@ returns-then-not-is_within c =
       sample = subst (λ t. DoesAnywhere t (command.Send c.args.channel c.args.chunk)
           (Refused refusal.OutsideConnection) t) c.self.view_is
           (send_unnamable_does (state_of c.self.inside) c.args.channel c.args.chunk c.in-Some.found is
-          c.if-not-found.false (sym c.is_within.ensures.within ∙ c.if-not-is_within.true));
+          (not_false c.in-Some.found.entry.loaned c.if-not-found.false) (sym c.is_within.ensures.within ∙ c.if-not-is_within.true));
     }
 
 pub pointer_at-pointer-requires-clause-place : goal.pointer_at-pointer-requires-clause-place
 pointer_at-pointer-requires-clause-place c =
     let is = subst (λ es. IsFound es c.args.chunk c.in-Some.found) c.deref.ensures.value c.in-Some.ensures.found in
-    (send_place (state_of c.self.inside) c.args.channel c.args.chunk c.in-Some.found is c.if-not-found.false
+    (send_place (state_of c.self.inside) c.args.channel c.args.chunk c.in-Some.found is (not_false c.in-Some.found.entry.loaned c.if-not-found.false)
     c.self.invariant.ledger c.self.invariant.represents).place
 
 pub bucket_size-size-requires-clause-active : goal.bucket_size-size-requires-clause-active
 bucket_size-size-requires-clause-active c =
     let is = subst (λ es. IsFound es c.args.chunk c.in-Some.found) c.deref.ensures.value c.in-Some.ensures.found in
     let place = send_place (state_of c.self.inside) c.args.channel c.args.chunk c.in-Some.found is
-    c.if-not-found.false c.self.invariant.ledger c.self.invariant.represents in
+    (not_false c.in-Some.found.entry.loaned c.if-not-found.false) c.self.invariant.ledger c.self.invariant.represents in
     subst (λ n. IsSome (segment_at c.self.inside.memory.slots n)) (sym c.new.ensures.value)
     (shown_held c.self.inside.memory_registry c.self.inside.memory.slots c.in-Some.found.entry.segment
     place.place.segment place.place.there)
@@ -91,7 +92,7 @@ is_in_use-requires-clause-within c =
     c.bucket_size-size.ensures.size in
     subst (λ n. IsWithin (port_at c.self.inside.connection_registry c.self.inside.sender.handle) n
     c.pointer_at-pointer.result c.bucket_size-size.result) (sym c.new-sent_on.ensures.value)
-    (send_within (state_of c.self.inside) c.args.channel c.args.chunk c.in-Some.found is c.if-not-found.false
+    (send_within (state_of c.self.inside) c.args.channel c.args.chunk c.in-Some.found is (not_false c.in-Some.found.entry.loaned c.if-not-found.false)
     c.self.invariant.linked c.if-channel-self.false both.0 both.1 c.pointer_at-pointer.result
     c.bucket_size-size.result c.pointer_at-pointer.ensures.pointer size
     c.self.invariant.ledger c.self.invariant.represents)
@@ -111,7 +112,7 @@ returns-then-is_in_use c =
       sample = subst (λ t. DoesAnywhere t (command.Send c.args.channel c.args.chunk)
           (Refused refusal.AlreadyInTransit) t) c.self.view_is
           (send_again_does (state_of c.self.inside) c.args.channel c.args.chunk c.in-Some.found is
-          c.if-not-found.false c.self.invariant.linked c.if-channel-self.false both.0 both.1
+          (not_false c.in-Some.found.entry.loaned c.if-not-found.false) c.self.invariant.linked c.if-channel-self.false both.0 both.1
           c.pointer_at-pointer.result c.bucket_size-size.result c.pointer_at-pointer.ensures.pointer size used);
     }
 
@@ -134,7 +135,7 @@ returns c =
       })) c.self.view_is
           (record {
             found = is;
-            loaned = c.if-not-found.false;
+            loaned = (not_false c.in-Some.found.entry.loaned c.if-not-found.false);
             channel = c.if-channel-self.false;
             segment = both.0;
             bucket = both.1;

@@ -1,4 +1,4 @@
-use Rattle.std.proofs.Common.{◌≡◌, ◌<◌, ◌+◌, ◌-◌, ◌/◌, ◌∙◌, ℕ, length, set, Option, Some, None, Result, Ok, Err, vec_len, vec_capacity, sym, ap, subst, arith}
+use Rattle.std.proofs.Common.{◌≡◌, ◌+◌, ◌-◌, ◌/◌, ◌∙◌, ℕ, length, set, Option, Some, None, Result, Ok, Err, vec_len, vec_capacity, sym, ap, subst, arith}
 use Rattle.std.proofs.lemmas.List.{length-set}
 use Rattle.std.proofs.lemmas.Option.{slice_get_within}
 use Rattle.cal_alloc.specs.Pool.{Pool}
@@ -91,7 +91,8 @@ pub enter_channel-requires-clause-index : goal.enter_channel-requires-clause-ind
 enter_channel-requires-clause-index c =
     let is = subst (λ t. IsSample t c.args.channel c.args.chunk c.in-Ok.sample) (sym c.self.view_is)
     c.in-Ok.ensures.sample in
-    slice_get_within c.self.inside.entries.items c.in-Ok.sample.found.index c.in-Ok.sample.found.entry is.found.0
+    let within = slice_get_within c.self.inside.entries.items c.in-Ok.sample.found.index c.in-Ok.sample.found.entry is.found.0 in
+    omega (arith, c.self.inside.entries.ok.0)
 
 pub enter_channel-requires-clause-small : goal.enter_channel-requires-clause-small
 enter_channel-requires-clause-small c =
@@ -183,7 +184,8 @@ pub enter_channel-2-requires-clause-index : goal.enter_channel-2-requires-clause
 enter_channel-2-requires-clause-index c =
     let is = subst (λ t. IsSample t c.args.channel c.args.chunk c.in-Ok.sample) (sym c.self.view_is)
     c.in-Ok.ensures.sample in
-    slice_get_within c.self.inside.entries.items c.in-Ok.sample.found.index c.in-Ok.sample.found.entry is.found.0
+    let within = slice_get_within c.self.inside.entries.items c.in-Ok.sample.found.index c.in-Ok.sample.found.entry is.found.0 in
+    omega (arith, c.self.inside.entries.ok.0)
 
 pub enter_channel-2-requires-clause-small : goal.enter_channel-2-requires-clause-small
 enter_channel-2-requires-clause-small c =
@@ -213,7 +215,7 @@ leave_channel-kept-requires-clause-index c =
     let within = leaving_index (state_of c.self.inside) c.self.invariant.linked c.args.channel c.args.chunk c.in-Ok.sample is
     c.in-Some.oldest c.try_send-answer.new.reg c.try_send-answer.new.self call c.pointed_entry-leaving.result found c.self.invariant.ledger c.self.invariant.represents in
     let long = ap length c.enter_channel-2.ensures.written ∙ length-set c.self.inside.entries.items c.in-Ok.sample.found.index _ in
-    subst (λ n. c.pointed_entry-leaving.result.index < n) (sym long) within
+    omega (arith, c.enter_channel-2.new.entries.ok.0)
 
 pub leave_channel-kept-requires-clause-transit : goal.leave_channel-kept-requires-clause-transit
 leave_channel-kept-requires-clause-transit c =
