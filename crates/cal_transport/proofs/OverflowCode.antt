@@ -63,7 +63,7 @@ module _ (t : TransportState) (linked : IsLinked t) (k name : ℕ) (sample : Sam
       × (Ok (Some back) ≡ return_answer error.ConnectionCorrupted entered.segments (overflow_of channel.submission))
   kept = accepted over_settings channel sample.pointer sample.size (Some back) call.answer_is
 
-  leaves : (is_full channel.submission ≡ true) × (slice_get channel.submission.values 0 ≡ Some back)
+  pub leaves : (is_full channel.submission ≡ true) × (slice_get channel.submission.values 0 ≡ Some back)
   leaves = one_leaves channel.submission back
       (some_returned error.ConnectionCorrupted entered.segments (overflow_of channel.submission) back kept.1)
 

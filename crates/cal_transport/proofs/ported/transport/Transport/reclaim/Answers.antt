@@ -31,8 +31,8 @@ returns-then-channel-self-clause-step c =
     subst (λ t. DoesAnywhere t (command.Reclaim c.args.channel) (Refused refusal.OutsideConnection) t) c.self.view_is
     (reclaim_outside_does (state_of c.self.inside) c.args.channel c.if-channel-self.true)
 
-pub prove-unreachable-requires : goal.prove-unreachable-requires
-prove-unreachable-requires c =
+pub unreachable-requires : goal.unreachable-requires
+unreachable-requires c =
     let call = call_at (state_of c.self.inside) c.new.result c.args.channel c.new.ensures.value
     c.reclaim-answer.result (Err c.in-Err.field-0) c.in-Err.is c.reclaim-answer.new.reg c.reclaim-answer.new.self (record {
       answer_is = c.reclaim-answer.ensures.answer;
@@ -163,8 +163,8 @@ count_less-requires-clause-some c =
     front_counted (state_of c.self.inside) c.self.invariant.linked c.args.channel c.if-channel-self.false
     c.in-Some.pointer c.reclaim-answer.new.reg c.reclaim-answer.new.self call c.self.invariant.ledger c.self.invariant.represents
 
-pub overflow_sub-in_transit : goal.overflow_sub-in_transit
-overflow_sub-in_transit c =
+pub overflow_sub-self : goal.overflow_sub-self
+overflow_sub-self c =
     let call = call_at (state_of c.self.inside) c.new.result c.args.channel c.new.ensures.value
     c.reclaim-answer.result (Ok (Some c.in-Some.pointer)) (c.in-Ok.is ∙ ap Ok c.in-Some.is) c.reclaim-answer.new.reg c.reclaim-answer.new.self (record {
       answer_is = c.reclaim-answer.ensures.answer;

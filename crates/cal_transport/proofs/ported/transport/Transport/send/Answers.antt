@@ -50,33 +50,33 @@ invariant_of-self c =
     let is = subst (λ t. IsSample t c.args.channel c.args.chunk c.in-Ok.sample) (sym c.self.view_is)
     c.in-Ok.ensures.sample in
     let call = call_at (state_of c.self.inside) c.new-channel_id.result c.args.channel c.in-Ok.sample.pointer
-    c.in-Ok.sample.size c.new-channel_id.ensures.value c.try_send-answer.result (Err c.in-Err.field-0) c.in-Err.is
+    c.in-Ok.sample.size c.new-channel_id.ensures.value c.try_send-answer.result (Err c.in-Err-answer.field-0) c.in-Err-answer.is
     c.try_send-answer.new.reg c.try_send-answer.new.self (record {
       answer_is = c.try_send-answer.ensures.answer;
       registry_is = c.try_send-answer.ensures.sent;
       sender_is = c.try_send-answer.ensures.port;
     }) in
     let same = send_full_state (state_of c.self.inside) c.self.invariant.linked c.args.channel c.args.chunk c.in-Ok.sample is
-    c.in-Err.field-0 c.try_send-answer.new.reg c.try_send-answer.new.self call c.self.invariant.ledger c.self.invariant.represents in
+    c.in-Err-answer.field-0 c.try_send-answer.new.reg c.try_send-answer.new.self call c.self.invariant.ledger c.self.invariant.represents in
     record {
       ledger = c.self.invariant.ledger;
       represents = subst (λ t. Represents t c.self.invariant.ledger) (sym same) c.self.invariant.represents;
       linked = subst IsLinked (sym same) c.self.invariant.linked;
     }
 
-pub returns-in-Err-2-clause-step : goal.returns-in-Err-2-clause-step
-returns-in-Err-2-clause-step c =
+pub returns-in-Err-answer-clause-step : goal.returns-in-Err-answer-clause-step
+returns-in-Err-answer-clause-step c =
     let is = subst (λ t. IsSample t c.args.channel c.args.chunk c.in-Ok.sample) (sym c.self.view_is)
     c.in-Ok.ensures.sample in
     let call = call_at (state_of c.self.inside) c.new-channel_id.result c.args.channel c.in-Ok.sample.pointer
-    c.in-Ok.sample.size c.new-channel_id.ensures.value c.try_send-answer.result (Err c.in-Err.field-0) c.in-Err.is
+    c.in-Ok.sample.size c.new-channel_id.ensures.value c.try_send-answer.result (Err c.in-Err-answer.field-0) c.in-Err-answer.is
     c.try_send-answer.new.reg c.try_send-answer.new.self (record {
       answer_is = c.try_send-answer.ensures.answer;
       registry_is = c.try_send-answer.ensures.sent;
       sender_is = c.try_send-answer.ensures.port;
     }) in
     let same = send_full_state (state_of c.self.inside) c.self.invariant.linked c.args.channel c.args.chunk c.in-Ok.sample is
-    c.in-Err.field-0 c.try_send-answer.new.reg c.try_send-answer.new.self call c.self.invariant.ledger c.self.invariant.represents in
+    c.in-Err-answer.field-0 c.try_send-answer.new.reg c.try_send-answer.new.self call c.self.invariant.ledger c.self.invariant.represents in
     subst (λ t. DoesAnywhere t (command.Send c.args.channel c.args.chunk) (Refused refusal.ReceiveBufferFull)
     (record (state_of c.self.inside) {
       connection_registry = c.try_send-answer.new.reg;
@@ -85,7 +85,7 @@ returns-in-Err-2-clause-step c =
     (subst (λ t. DoesAnywhere (state_of c.self.inside) (command.Send c.args.channel c.args.chunk)
     (Refused refusal.ReceiveBufferFull) t) (sym same)
     (send_full_does (state_of c.self.inside) c.self.invariant.linked c.args.channel c.args.chunk c.in-Ok.sample is
-    c.in-Err.field-0 c.try_send-answer.new.reg c.try_send-answer.new.self call))
+    c.in-Err-answer.field-0 c.try_send-answer.new.reg c.try_send-answer.new.self call))
 
 pub enter_channel-requires-clause-index : goal.enter_channel-requires-clause-index
 enter_channel-requires-clause-index c =
@@ -106,8 +106,8 @@ count_more-requires-clause-small c =
     c.in-Ok.ensures.sample in
     channel_counted (state_of c.self.inside) c.self.invariant.linked c.args.channel c.args.chunk c.in-Ok.sample is c.self.invariant.ledger c.self.invariant.represents
 
-pub overflow_add-in_transit : goal.overflow_add-in_transit
-overflow_add-in_transit c =
+pub overflow_add-self : goal.overflow_add-self
+overflow_add-self c =
     let is = subst (λ t. IsSample t c.args.channel c.args.chunk c.in-Ok.sample) (sym c.self.view_is)
     c.in-Ok.ensures.sample in
     let few = all_counted (state_of c.self.inside) c.self.invariant.linked c.args.channel c.args.chunk c.in-Ok.sample is c.self.invariant.ledger c.self.invariant.represents in
@@ -118,7 +118,7 @@ invariant_of-self-in-None c =
     let is = subst (λ t. IsSample t c.args.channel c.args.chunk c.in-Ok.sample) (sym c.self.view_is)
     c.in-Ok.ensures.sample in
     let call = call_at (state_of c.self.inside) c.new-channel_id.result c.args.channel c.in-Ok.sample.pointer
-    c.in-Ok.sample.size c.new-channel_id.ensures.value c.try_send-answer.result (Ok None) (c.in-Ok-2.is ∙ ap Ok c.in-None.is)
+    c.in-Ok.sample.size c.new-channel_id.ensures.value c.try_send-answer.result (Ok None) (c.in-Ok-answer.is ∙ ap Ok c.in-None.is)
     c.try_send-answer.new.reg c.try_send-answer.new.self (record {
       answer_is = c.try_send-answer.ensures.answer;
       registry_is = c.try_send-answer.ensures.sent;
@@ -142,7 +142,7 @@ returns-in-None-clause-step c =
     let is = subst (λ t. IsSample t c.args.channel c.args.chunk c.in-Ok.sample) (sym c.self.view_is)
     c.in-Ok.ensures.sample in
     let call = call_at (state_of c.self.inside) c.new-channel_id.result c.args.channel c.in-Ok.sample.pointer
-    c.in-Ok.sample.size c.new-channel_id.ensures.value c.try_send-answer.result (Ok None) (c.in-Ok-2.is ∙ ap Ok c.in-None.is)
+    c.in-Ok.sample.size c.new-channel_id.ensures.value c.try_send-answer.result (Ok None) (c.in-Ok-answer.is ∙ ap Ok c.in-None.is)
     c.try_send-answer.new.reg c.try_send-answer.new.self (record {
       answer_is = c.try_send-answer.ensures.answer;
       registry_is = c.try_send-answer.ensures.sent;
@@ -167,7 +167,7 @@ pointed_entry-leaving-requires-clause-points c =
     let is = subst (λ t. IsSample t c.args.channel c.args.chunk c.in-Ok.sample) (sym c.self.view_is)
     c.in-Ok.ensures.sample in
     let call = call_at (state_of c.self.inside) c.new-channel_id.result c.args.channel c.in-Ok.sample.pointer
-    c.in-Ok.sample.size c.new-channel_id.ensures.value c.try_send-answer.result (Ok (Some c.in-Some.oldest)) (c.in-Ok-2.is ∙ ap Ok c.in-Some.is)
+    c.in-Ok.sample.size c.new-channel_id.ensures.value c.try_send-answer.result (Ok (Some c.in-Some.oldest)) (c.in-Ok-answer.is ∙ ap Ok c.in-Some.is)
     c.try_send-answer.new.reg c.try_send-answer.new.self (record {
       answer_is = c.try_send-answer.ensures.answer;
       registry_is = c.try_send-answer.ensures.sent;
@@ -180,15 +180,15 @@ pointed_entry-leaving-requires-clause-points c =
     (oldest_leads (state_of c.self.inside) c.self.invariant.linked c.args.channel c.args.chunk c.in-Ok.sample is
     c.in-Some.oldest c.try_send-answer.new.reg c.try_send-answer.new.self call c.self.invariant.ledger c.self.invariant.represents).points)
 
-pub enter_channel-2-requires-clause-index : goal.enter_channel-2-requires-clause-index
-enter_channel-2-requires-clause-index c =
+pub enter_channel-requires-2-clause-index : goal.enter_channel-requires-2-clause-index
+enter_channel-requires-2-clause-index c =
     let is = subst (λ t. IsSample t c.args.channel c.args.chunk c.in-Ok.sample) (sym c.self.view_is)
     c.in-Ok.ensures.sample in
     let within = slice_get_within c.self.inside.entries.items c.in-Ok.sample.found.index c.in-Ok.sample.found.entry is.found.0 in
     omega (arith, c.self.inside.entries.ok.0)
 
-pub enter_channel-2-requires-clause-small : goal.enter_channel-2-requires-clause-small
-enter_channel-2-requires-clause-small c =
+pub enter_channel-requires-2-clause-small : goal.enter_channel-requires-2-clause-small
+enter_channel-requires-2-clause-small c =
     let is = subst (λ t. IsSample t c.args.channel c.args.chunk c.in-Ok.sample) (sym c.self.view_is)
     c.in-Ok.ensures.sample in
     entry_counted (state_of c.self.inside) c.self.invariant.linked c.args.channel c.args.chunk c.in-Ok.sample is c.self.invariant.ledger c.self.invariant.represents
@@ -198,7 +198,7 @@ leave_channel-kept-requires-clause-index c =
     let is = subst (λ t. IsSample t c.args.channel c.args.chunk c.in-Ok.sample) (sym c.self.view_is)
     c.in-Ok.ensures.sample in
     let call = call_at (state_of c.self.inside) c.new-channel_id.result c.args.channel c.in-Ok.sample.pointer
-    c.in-Ok.sample.size c.new-channel_id.ensures.value c.try_send-answer.result (Ok (Some c.in-Some.oldest)) (c.in-Ok-2.is ∙ ap Ok c.in-Some.is)
+    c.in-Ok.sample.size c.new-channel_id.ensures.value c.try_send-answer.result (Ok (Some c.in-Some.oldest)) (c.in-Ok-answer.is ∙ ap Ok c.in-Some.is)
     c.try_send-answer.new.reg c.try_send-answer.new.self (record {
       answer_is = c.try_send-answer.ensures.answer;
       registry_is = c.try_send-answer.ensures.sent;
@@ -222,7 +222,7 @@ leave_channel-kept-requires-clause-transit c =
     let is = subst (λ t. IsSample t c.args.channel c.args.chunk c.in-Ok.sample) (sym c.self.view_is)
     c.in-Ok.ensures.sample in
     let call = call_at (state_of c.self.inside) c.new-channel_id.result c.args.channel c.in-Ok.sample.pointer
-    c.in-Ok.sample.size c.new-channel_id.ensures.value c.try_send-answer.result (Ok (Some c.in-Some.oldest)) (c.in-Ok-2.is ∙ ap Ok c.in-Some.is)
+    c.in-Ok.sample.size c.new-channel_id.ensures.value c.try_send-answer.result (Ok (Some c.in-Some.oldest)) (c.in-Ok-answer.is ∙ ap Ok c.in-Some.is)
     c.try_send-answer.new.reg c.try_send-answer.new.self (record {
       answer_is = c.try_send-answer.ensures.answer;
       registry_is = c.try_send-answer.ensures.sent;
@@ -244,7 +244,7 @@ free_unless-requires-clause-out c =
     let is = subst (λ t. IsSample t c.args.channel c.args.chunk c.in-Ok.sample) (sym c.self.view_is)
     c.in-Ok.ensures.sample in
     let call = call_at (state_of c.self.inside) c.new-channel_id.result c.args.channel c.in-Ok.sample.pointer
-    c.in-Ok.sample.size c.new-channel_id.ensures.value c.try_send-answer.result (Ok (Some c.in-Some.oldest)) (c.in-Ok-2.is ∙ ap Ok c.in-Some.is)
+    c.in-Ok.sample.size c.new-channel_id.ensures.value c.try_send-answer.result (Ok (Some c.in-Some.oldest)) (c.in-Ok-answer.is ∙ ap Ok c.in-Some.is)
     c.try_send-answer.new.reg c.try_send-answer.new.self (record {
       answer_is = c.try_send-answer.ensures.answer;
       registry_is = c.try_send-answer.ensures.sent;
@@ -258,7 +258,7 @@ free_unless-requires-clause-used c =
     let is = subst (λ t. IsSample t c.args.channel c.args.chunk c.in-Ok.sample) (sym c.self.view_is)
     c.in-Ok.ensures.sample in
     let call = call_at (state_of c.self.inside) c.new-channel_id.result c.args.channel c.in-Ok.sample.pointer
-    c.in-Ok.sample.size c.new-channel_id.ensures.value c.try_send-answer.result (Ok (Some c.in-Some.oldest)) (c.in-Ok-2.is ∙ ap Ok c.in-Some.is)
+    c.in-Ok.sample.size c.new-channel_id.ensures.value c.try_send-answer.result (Ok (Some c.in-Some.oldest)) (c.in-Ok-answer.is ∙ ap Ok c.in-Some.is)
     c.try_send-answer.new.reg c.try_send-answer.new.self (record {
       answer_is = c.try_send-answer.ensures.answer;
       registry_is = c.try_send-answer.ensures.sent;
@@ -272,7 +272,7 @@ invariant_of-self-2 c =
     let is = subst (λ t. IsSample t c.args.channel c.args.chunk c.in-Ok.sample) (sym c.self.view_is)
     c.in-Ok.ensures.sample in
     let call = call_at (state_of c.self.inside) c.new-channel_id.result c.args.channel c.in-Ok.sample.pointer
-    c.in-Ok.sample.size c.new-channel_id.ensures.value c.try_send-answer.result (Ok (Some c.in-Some.oldest)) (c.in-Ok-2.is ∙ ap Ok c.in-Some.is)
+    c.in-Ok.sample.size c.new-channel_id.ensures.value c.try_send-answer.result (Ok (Some c.in-Some.oldest)) (c.in-Ok-answer.is ∙ ap Ok c.in-Some.is)
     c.try_send-answer.new.reg c.try_send-answer.new.self (record {
       answer_is = c.try_send-answer.ensures.answer;
       registry_is = c.try_send-answer.ensures.sent;
@@ -322,7 +322,7 @@ returns-clause-step c =
     let is = subst (λ t. IsSample t c.args.channel c.args.chunk c.in-Ok.sample) (sym c.self.view_is)
     c.in-Ok.ensures.sample in
     let call = call_at (state_of c.self.inside) c.new-channel_id.result c.args.channel c.in-Ok.sample.pointer
-    c.in-Ok.sample.size c.new-channel_id.ensures.value c.try_send-answer.result (Ok (Some c.in-Some.oldest)) (c.in-Ok-2.is ∙ ap Ok c.in-Some.is)
+    c.in-Ok.sample.size c.new-channel_id.ensures.value c.try_send-answer.result (Ok (Some c.in-Some.oldest)) (c.in-Ok-answer.is ∙ ap Ok c.in-Some.is)
     c.try_send-answer.new.reg c.try_send-answer.new.self (record {
       answer_is = c.try_send-answer.ensures.answer;
       registry_is = c.try_send-answer.ensures.sent;
