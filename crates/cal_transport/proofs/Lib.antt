@@ -86,3 +86,15 @@ pub mod TransitChannels
 pub mod Determined
 pub mod Reaching
 mod Serving
+pub mod FreeCode
+pub mod DiscardCode
+pub mod TransitCounts
+pub mod SentMarks
+pub mod ReturnedCode
+pub mod ReclaimCode
+pub mod SendRefusals
+pub mod SendCode
+pub mod SentAnswers
+pub mod SentCode
+pub mod OverflowCode
+pub mod Placed

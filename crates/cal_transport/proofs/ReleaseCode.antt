@@ -1,11 +1,8 @@
 -- A release, from what the calls on the port and the view say.
 use Rattle.std.proofs.Common.{IsSomeAnd, option_map, ℕ, ◌+◌, ◌-◌, ◌*◌, ◌<◌, ◌≤◌, ◌≡◌, ◌≢◌, Bool, true, false, cond, ◌&&◌, nat_eq, nat_lt, List, length, set, get_or, Option, Some, None, Result, Ok, Err, refl, sym, ap, ◌∙◌, subst, arith}
 use Rattle.std.specs.List.{slice_get}
-use Rattle.std.proofs.lemmas.Nat.{mul-add-lt}
 use Rattle.std.proofs.lemmas.Bool.{true≢false, eqb-true, eqb-false, eq-eqb, ltb-true, lt-ltb, and_parts, or_right}
 use Rattle.std.proofs.lemmas.List.{get_or-set_same, get_or-set_other, length-set, length-map, set-get_or}
-use Rattle.cal_alloc.specs.Growth.{SegmentLayout}
-use Rattle.cal_alloc.specs.Limits.{max_memory_size}
 use Rattle.cal_alloc.specs.PointerOffset.{segment_of, pointer_offset}
 use Rattle.cal_alloc.specs.Pool.{Pool}
 use Rattle.cal_queue.specs.Queue.{after_push, is_full}
@@ -27,11 +24,11 @@ use Rattle.cal_transport.specs.declared.reply.Refusal.TheVariants as refusal
 use Rattle.cal_transport.specs.declared.ported.chunk_entry.ChunkEntry.{ChunkEntry}
 use Rattle.cal_transport.specs.declared.ported.chunk_entry.Found.{Found}
 use Rattle.cal_transport.specs.Settings.{completion_size}
-use Rattle.cal_transport.specs.Ledger.{Ledger, Chunk, layout_at, is_live, is_borrowed, completed_names}
+use Rattle.cal_transport.specs.Ledger.{Ledger, is_borrowed, completed_names}
 use Rattle.cal_transport.specs.ChunkEntry.{HasNoEntry, IsFound}
 use Rattle.cal_transport.specs.Weights.{one_if, borrows, borrowed_in}
 use Rattle.cal_transport.specs.Pointed.{HasPlace}
-use Rattle.cal_transport.specs.Shown.{Shows, ShowsMapped, pointer_to, pointer_named, entry_of}
+use Rattle.cal_transport.specs.Shown.{ShowsMapped, pointer_to, pointer_named}
 use Rattle.cal_transport.specs.Viewing.{is_told, mapped_after_return}
 use Rattle.cal_transport.specs.Sharing.{GoesBack}
 use Rattle.cal_transport.specs.State.{TransportState, core_of, active_of, mapped_at, LinksPorts, IsLinked, Represents, DoesAnywhere}
@@ -44,8 +41,8 @@ use Rattle.cal_transport.proofs.Totals.{total_least}
 use Rattle.cal_transport.proofs.Names.{fewer_released}
 use Rattle.cal_transport.proofs.Mapped.{mapped_told}
 use Rattle.cal_transport.proofs.Marks.{mark_below}
-use Rattle.cal_transport.proofs.Seen.{is_seen}
-use Rattle.cal_transport.proofs.Fronts.{is_pointer, sizes_of, has_segment, alive_active}
+pub use Rattle.cal_transport.proofs.Placed.{PlaceOf, place_of}
+use Rattle.cal_transport.proofs.Fronts.{is_pointer}
 use Rattle.cal_transport.proofs.Finding.{IsChunk, found_chunk, found_none}
 use Rattle.cal_transport.proofs.Lent.{IsNamable, namable, unknown_unborrowed, found_tells}
 use Rattle.cal_transport.proofs.ReleaseStep.{Releases, IsBorrowed, releases, release_unborrowed, release_full, may_release}
@@ -77,34 +74,6 @@ answer_full ch why is = go (is_full ch.completion) refl is
         is_full ch.completion ≡ true
     go true e q = e
     go false e q = absurd (let q2 = q in cc)
-
--- ---- the place of a live chunk
-
-pub record PlaceOf (t : TransportState) (l : Ledger) (chunk : Chunk) (entry : ChunkEntry) : Type 0 where
-  pub place : HasPlace t.memory_registry t.memory entry.segment entry.bucket
-  pub pointer_is : pointer_offset (entry.bucket * place.segment.allocator.buckets.size) entry.segment
-      ≡ pointer_to l chunk
-
-pub place_of : (t : TransportState) (l : Ledger) → IsSettled l → Shows (core_of t) l → (i : ℕ) (chunk : Chunk) →
-    slice_get l.chunks i ≡ Some chunk → is_live l chunk ≡ true → PlaceOf t l chunk (entry_of l.histories chunk)
-place_of t l s shows i chunk there alive =
-    let had = has_segment (core_of t) l chunk.segment shows (alive_active l s i chunk there alive) in
-    let seen = is_seen t.memory_registry t.memory chunk.segment had.shown had.has in
-    let size_is : seen.segment.allocator.buckets.size ≡ (layout_at l chunk.segment).size =
-    ap (λ (q : Pool). q.buckets.size) seen.pool ∙ ap (λ (b : SegmentLayout). b.size) had.shows.layout in
-    let sizes = sizes_of l s i chunk there in
-    let within = s.within i chunk there in
-    let below = mul-add-lt chunk.bucket (layout_at l chunk.segment).size 0 (layout_at l chunk.segment).count
-    within.bucket sizes.not_empty in
-    let most = sizes.payload in
-    record {
-      place = record {
-        segment = seen.segment;
-        there = seen.there;
-        small = subst (λ n. chunk.bucket * n < max_memory_size) (sym size_is) (omega arith);
-      };
-      pointer_is = ap (λ n. pointer_offset (chunk.bucket * n) chunk.segment) size_is;
-    }
 
 module _ (t : TransportState) (linked : IsLinked t) (k : ℕ) (inside : k < t.settings.channels) (name : ℕ) where
   abbrev ch : ChannelEntry

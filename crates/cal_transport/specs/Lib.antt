@@ -37,3 +37,4 @@ pub mod Served
 pub mod TransitLines
 pub mod Reached
 pub mod Counting
+pub mod Sample

@@ -1,15 +1,30 @@
 //! The sender's commands on chunks that it has loaned: send, reclaim and discard.
 
+ghost use Rattle.std.specs.Prelude.{◌≡◌, ◌&&◌, nat_lt};
 ghost use Rattle.cal_transport.specs.CommandsDo.{SendDoes, ReclaimDoes, DiscardDoes};
 ghost use Rattle.cal_transport.specs.Room.{TakesRoomOfOne};
+ghost use Rattle.cal_transport.specs.Sample.{AnswersSample};
 
 use crate::ported::chunk_entry::{ChunkEntry, Found, find_entry};
-use crate::ported::taking_back::{free_unless_live, take_back};
+use crate::ported::pointing::{pointed_entry, pointer_at};
+use crate::ported::sharing::free_unless;
+use crate::ported::taking_back::{count_less, count_more, end_loan, enter_channel, leave_channel, slot_at};
 use crate::ported::transport::Transport;
 use crate::reply::{Refusal, Slot};
 use cal_alloc::{PointerOffset, SegmentId};
-use cal_connection::{ChannelId, ZeroCopySendError, ZeroCopySender};
+use cal_connection::{ChannelId, ZeroCopySender};
 use cal_resizable::SegmentsHolder;
+
+/// A chunk that may be sent: its entry, its pointer, and the size in bytes of its bucket.
+#[derive(Drop)]
+pub(crate) struct Sample {
+    /// The chunk's entry.
+    pub(crate) found: Found,
+    /// Where the chunk lies.
+    pub(crate) pointer: PointerOffset,
+    /// The size of the buckets of its segment.
+    pub(crate) size: usize,
+}
 
 impl Transport {
     /// Queues a loaned chunk on a channel. Where as many chunks are queued as may be and chunks overflow, the oldest
@@ -18,50 +33,88 @@ impl Transport {
         ensures step { SendDoes self.old channel chunk result self.new }
         ensures room { TakesRoomOfOne self.old self.new }
     {
-        let Some(found) = find_entry(&self.entries, chunk) else {
-            return Err(Refusal::NotLoaned);
+        let sample = match self.sample_to_send(channel, chunk) {
+            Ok(sample) => sample,
+            Err(refusal) => return Err(refusal),
         };
-        if let Some(refusal) = self.send_refusal(channel, found.entry) {
-            return Err(refusal);
-        }
-        let size = self.bucket_size_of(found.entry);
-        let pointer = self.pointer_of(found.entry);
+        let channel_id = ChannelId::new(channel);
         let answer = self.sender.try_send(
             &mut self.connection_registry,
-            pointer,
-            size,
-            ChannelId::new(channel),
+            sample.pointer,
+            sample.size,
+            channel_id,
         );
-        match answer {
-            Ok(back) => Ok(self.count_sent(channel, found, back)),
-            Err(ZeroCopySendError::ReceiveBufferFull) => Err(Refusal::ReceiveBufferFull),
-            Err(_) => unreachable!(),
-        }
+        let back = match answer {
+            Ok(back) => back,
+            Err(_) => return Err(Refusal::ReceiveBufferFull),
+        };
+        let oldest = match back {
+            Some(oldest) => oldest,
+            None => {
+                enter_channel(&mut self.entries, sample.found);
+                count_more(&mut self.transits, channel);
+                self.in_transit += 1;
+                return Ok(None);
+            }
+        };
+        let leaving = pointed_entry(
+            &self.entries,
+            &self.owners,
+            &self.memory,
+            &self.memory_registry,
+            oldest,
+        );
+        enter_channel(&mut self.entries, sample.found);
+        let kept = leave_channel(&mut self.entries, leaving);
+        free_unless(
+            kept,
+            &mut self.memory,
+            &self.view,
+            &mut self.memory_registry,
+            oldest,
+        );
+        Ok(Some(slot_at(leaving.entry, oldest)))
     }
 
-    /// Why a chunk can't be sent on a channel, whatever is queued there, if it can't.
-    fn send_refusal(&self, channel: usize, entry: ChunkEntry) -> Option<Refusal> {
-        if !entry.loaned {
-            return Some(Refusal::NotLoaned);
+    /// The chunk of that name, if it may be sent on a channel where there is room; else why not.
+    fn sample_to_send(&self, channel: usize, chunk: usize) -> Result<Sample, Refusal>
+        ensures sample { AnswersSample self.now channel chunk result }
+    {
+        let found = match find_entry(&self.entries, chunk) {
+            Some(found) => found,
+            None => return Err(Refusal::NotLoaned),
+        };
+        if !found.entry.loaned {
+            return Err(Refusal::NotLoaned);
         }
-        if channel >= self.settings.channels || !self.is_within(entry) {
-            return Some(Refusal::OutsideConnection);
+        if channel >= self.settings.channels {
+            return Err(Refusal::OutsideConnection);
         }
-        let size = self.bucket_size_of(entry);
-        let pointer = self.pointer_of(entry);
-        let channel_id = ChannelId::new(channel);
+        if !is_within(found.entry, self.settings.segments, self.settings.samples) {
+            return Err(Refusal::OutsideConnection);
+        }
+        let pointer = pointer_at(
+            &self.memory,
+            &self.memory_registry,
+            found.entry.segment,
+            found.entry.bucket,
+        );
+        let size = self.memory.bucket_size(
+            &self.memory_registry,
+            SegmentId::new(found.entry.segment),
+        );
+        let sent_on = ChannelId::new(channel);
         if self
             .sender
-            .is_in_use(&self.connection_registry, pointer, size, channel_id)
+            .is_in_use(&self.connection_registry, pointer, size, sent_on)
         {
-            return Some(Refusal::AlreadyInTransit);
+            return Err(Refusal::AlreadyInTransit);
         }
-        None
-    }
-
-    /// Whether the connection can name a chunk's bucket.
-    pub(crate) fn is_within(&self, entry: ChunkEntry) -> bool {
-        entry.segment < self.settings.segments && entry.bucket < self.settings.samples
+        Ok(Sample {
+            found,
+            pointer,
+            size,
+        })
     }
 
     /// The pointer to a chunk that is loaned or in transit.
@@ -79,32 +132,6 @@ impl Transport {
             .bucket_size(&self.memory_registry, SegmentId::new(entry.segment))
     }
 
-    /// A chunk is in transit on a channel, and the one at a pointer came back from there, if one did.
-    fn count_sent(
-        &mut self,
-        channel: usize,
-        found: Found,
-        back: Option<PointerOffset>,
-    ) -> Option<Slot> {
-        self.entries[found.index] = ChunkEntry {
-            sent: true,
-            transits: found.entry.transits + 1,
-            ..found.entry
-        };
-        let Some(pointer) = back else {
-            self.transits[channel] += 1;
-            self.in_transit += 1;
-            return None;
-        };
-        Some(take_back(
-            &mut self.entries,
-            &self.owners,
-            &mut self.memory,
-            &mut self.memory_registry,
-            pointer,
-        ))
-    }
-
     /// Takes back the oldest chunk that the receiver gave back on a channel, if there is one.
     pub fn reclaim(&mut self, channel: usize) -> Result<Option<Slot>, Refusal>
         ensures step { ReclaimDoes self.old channel result self.new }
@@ -116,21 +143,32 @@ impl Transport {
         let answer = self
             .sender
             .reclaim(&mut self.connection_registry, ChannelId::new(channel));
-        match answer {
-            Ok(Some(pointer)) => {
-                self.transits[channel] -= 1;
-                self.in_transit -= 1;
-                Ok(Some(take_back(
-                    &mut self.entries,
-                    &self.owners,
-                    &mut self.memory,
-                    &mut self.memory_registry,
-                    pointer,
-                )))
-            }
-            Ok(None) => Ok(None),
+        let taken = match answer {
+            Ok(taken) => taken,
             Err(_) => unreachable!(),
-        }
+        };
+        let pointer = match taken {
+            Some(pointer) => pointer,
+            None => return Ok(None),
+        };
+        let found = pointed_entry(
+            &self.entries,
+            &self.owners,
+            &self.memory,
+            &self.memory_registry,
+            pointer,
+        );
+        let kept = leave_channel(&mut self.entries, found);
+        free_unless(
+            kept,
+            &mut self.memory,
+            &self.view,
+            &mut self.memory_registry,
+            pointer,
+        );
+        count_less(&mut self.transits, channel);
+        self.in_transit -= 1;
+        Ok(Some(slot_at(found.entry, pointer)))
     }
 
     /// Ends the loan of a chunk.
@@ -138,24 +176,34 @@ impl Transport {
         ensures step { DiscardDoes self.old chunk result self.new }
         ensures room { TakesRoomOfOne self.old self.new }
     {
-        let Some(found) = find_entry(&self.entries, chunk) else {
-            return Err(Refusal::NotLoaned);
+        let found = match find_entry(&self.entries, chunk) {
+            Some(found) => found,
+            None => return Err(Refusal::NotLoaned),
         };
         if !found.entry.loaned {
             return Err(Refusal::NotLoaned);
         }
-        let pointer = self.pointer_of(found.entry);
-        self.entries[found.index] = ChunkEntry {
-            loaned: false,
-            ..found.entry
-        };
-        let in_transit = found.entry.transits > 0;
-        free_unless_live(
+        let pointer = pointer_at(
+            &self.memory,
+            &self.memory_registry,
+            found.entry.segment,
+            found.entry.bucket,
+        );
+        free_unless(
+            found.entry.transits > 0,
             &mut self.memory,
+            &self.view,
             &mut self.memory_registry,
-            in_transit,
             pointer,
         );
+        end_loan(&mut self.entries, found);
         Ok(())
     }
+}
+
+/// Whether a connection of that many segments, and that many samples of each, can name the bucket of an entry.
+pub(crate) fn is_within(entry: ChunkEntry, segments: u8, samples: usize) -> bool
+    ensures within { result ≡ (nat_lt entry.segment segments && nat_lt entry.bucket samples) }
+{
+    entry.segment < segments && entry.bucket < samples
 }
