@@ -79,3 +79,7 @@ pub mod Lent
 pub mod ReleaseCode
 pub mod Frees
 mod Serving
+pub mod Putting
+pub mod Housed
+pub mod ReadCode
+pub mod WriteCode

@@ -34,3 +34,4 @@ pub mod CommandsDo
 pub mod Opening
 pub mod Room
 pub mod Served
+pub mod Putting
