@@ -83,3 +83,6 @@ pub mod Putting
 pub mod Housed
 pub mod ReadCode
 pub mod WriteCode
+pub mod PoolCauses
+pub mod NextBuckets
+pub mod LoanCauses

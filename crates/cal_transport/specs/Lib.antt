@@ -35,3 +35,6 @@ pub mod Opening
 pub mod Room
 pub mod Served
 pub mod Putting
+pub mod Owning
+pub mod LoanErrors
+pub mod ChunkTold
