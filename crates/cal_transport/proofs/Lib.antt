@@ -86,3 +86,7 @@ pub mod WriteCode
 pub mod PoolCauses
 pub mod NextBuckets
 pub mod LoanCauses
+pub mod Handed
+pub mod LoanLent
+pub mod LoanGrowth
+pub mod LoanCode

@@ -1,5 +1,5 @@
 -- The tables that lead from the buckets of segments to the entries of their chunks.
-use Rattle.std.specs.Prelude.{◌≡◌, ℕ, ◌+◌, ◌≤◌, Vec, vec_len, List, [], ◌∷◌, ◌++◌, length, Option, Some, None, IsSome, Result, Ok, Err, AllocError, slice_index_or, slice_set}
+use Rattle.std.specs.Prelude.{◌≡◌, ℕ, ◌+◌, ◌≤◌, Vec, List, [], ◌∷◌, ◌++◌, length, Option, Some, None, IsSome, Result, Ok, Err, AllocError, slice_index_or, slice_set}
 use Rattle.std.specs.declared.alloc.Global.{Global}
 use Rattle.cal_alloc.specs.Pool.{Pool}
 use Rattle.cal_storage.specs.Contents.{Contents}
@@ -10,7 +10,7 @@ use Rattle.cal_resizable.specs.Memory.{MemoryState}
 -- a table for so many buckets, if there are to be some; the want of memory only where there are to be
 abbrev pub IsTableFor : Option ℕ → Result (Option (Vec ℕ Global)) AllocError → Type 0
 IsTableFor count (Ok None) = count ≡ None
-IsTableFor count (Ok (Some table)) = count ≡ Some (vec_len table)
+IsTableFor count (Ok (Some table)) = count ≡ Some (length table.items)
 IsTableFor count (Err error) = IsSome count
 
 -- the tables with one more, if there is one
