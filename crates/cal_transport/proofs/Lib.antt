@@ -90,3 +90,4 @@ pub mod Handed
 pub mod LoanLent
 pub mod LoanGrowth
 pub mod LoanCode
+pub mod LoanDone

@@ -81,10 +81,11 @@ module _ (t : TransportState) (name : ℕ) (below : AreBelow t.entries name) whe
   }
 
   module _ (size alignment : ℕ) where
-    does : (new : TransportState) (reply : Reply) → ((l : Ledger) (r : Represents t l) →
+    -- a reply that answers the loan
+    pub loan_done_does : (new : TransportState) (reply : Reply) → ((l : Ledger) (r : Represents t l) →
         Steps (core_of new) l name (command.Loan size alignment) reply) →
         Does t name (command.Loan size alignment) reply new
-    does new reply steps l r = (
+    loan_done_does new reply steps l r = (
       (steps l r).step,
       record {
         place = name + 1;
@@ -97,7 +98,7 @@ module _ (t : TransportState) (name : ℕ) (below : AreBelow t.entries name) whe
     pub loan_refused_does : (why : Refusal) → ((l : Ledger) → Represents t l →
         loan_cause (current_segment l) size alignment ≡ Some why) →
         Does t name (command.Loan size alignment) (Refused why) t
-    loan_refused_does why cause = does t (Refused why) (λ l r.
+    loan_refused_does why cause = loan_done_does t (Refused why) (λ l r.
         refused (core_of t) l name (command.Loan size alignment) why r.shows r.tracks (cause l r))
 
     pub loan_bad_does : is_power_of_two alignment ≡ false →
