@@ -91,3 +91,6 @@ pub mod LoanLent
 pub mod LoanGrowth
 pub mod LoanCode
 pub mod LoanDone
+pub mod Viewed
+pub mod AccessCode
+pub mod LiveFew
