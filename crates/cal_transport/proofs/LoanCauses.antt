@@ -237,11 +237,11 @@ module _ (t : TransportState) (l : Ledger) (s : IsSettled l) (shows : Shows (cor
         ap (λ o. cond (is_static l.settings.strategy) o (cond (serves (current_segment l) layout.size layout.alignment)
         None (growth_cause (current_segment l) next))) a
         ∙ ap (λ c. cond (is_static l.settings.strategy) None (cond c None (growth_cause (current_segment l) next))) b
-        ∙ either (is_static l.settings.strategy)
+        ∙ either None (is_static l.settings.strategy)
       where
-        either : (c : Bool) → cond c None None ≡ None {A = Refusal}
-        either true = refl
-        either false = refl
+        either : (o : Option Refusal) (c : Bool) → cond c o o ≡ o
+        either o true = refl
+        either o false = refl
 
     -- the pool doesn't, and the memory is static
     cause_static : (why : ShmAllocationError) → pool_refusal segment.allocator layout ≡ Some why →

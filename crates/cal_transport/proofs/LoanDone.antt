@@ -73,6 +73,10 @@ plan_ok true true true o why hint is = absurd (let q = is in cc)
 plan_ok true false last o why hint is = absurd (let q = is in cc)
 plan_ok false growing last o why hint is = absurd (let q = is in cc)
 
+-- how many buckets a proposal has
+abbrev count_of : Option (SharedMemorySetupHint Config) → Option ℕ
+count_of o = option_map (λ hint. (buckets_within hint.payload_size hint.config.bucket_layout).count) o
+
 -- the state that has grown, or the same one
 abbrev pub between_state : TransportState → Contents (Segment Pool) → MemoryState → Option (Vec ℕ Global) →
     TransportState
@@ -230,10 +234,6 @@ module _ (t : TransportState) (linked : IsLinked t) (size alignment : ℕ) (powe
       Between t size alignment pointer handed memory table
   between table = by_refusal (pool_refusal segment.allocator layout) refl
     where
-      count_of : Option (SharedMemorySetupHint Config) → Option ℕ
-      count_of o = option_map (λ (h : SharedMemorySetupHint Config).
-          (buckets_within h.payload_size h.config.bucket_layout).count) o
-
       by_plan : (why : ShmAllocationError) → pool_refusal segment.allocator layout ≡ Some why →
           (plan : Result (SharedMemorySetupHint Config) ResizableShmAllocationError) →
           growth_plan pool_rules t.memory.strategy number layout segment.allocator why ≡ plan →

@@ -29,7 +29,7 @@ use Rattle.cal_transport.proofs.Finding.{IsChunk, found_chunk, found_none}
 use Rattle.cal_transport.proofs.Lent.{unknown_unborrowed, found_tells}
 use Rattle.cal_transport.proofs.ReadStep.{read_outside, read_unnamed, read_unborrowed, read_past, reads}
 use Rattle.cal_transport.proofs.ReleaseCode.{registered, pointer_by}
-use Rattle.cal_transport.proofs.Housed.{HousesChunk, houses, houses_entry, house_pointer, house_payload, transit_lives_on, some_counted}
+use Rattle.cal_transport.proofs.Housed.{HousesChunk, houses, houses_entry, house_held, house_place, house_pointer, house_payload, transit_lives_on, some_counted}
 
 module _ (t : TransportState) (linked : IsLinked t) (k name at len : ℕ) where
   placeless : (l : Ledger) (reply : Reply) → IsPlaceless l (command.Read k name at len) reply
@@ -89,6 +89,13 @@ module _ (t : TransportState) (linked : IsLinked t) (k name at len : ℕ) where
             (transit_lives_on l (of l r).chunk found.entry (of l r).entry_is
             (and_parts (nat_lt 0 found.entry.transits) (contains (get_or t.lent k (none_used 0))
             (found.entry.segment * t.settings.samples + found.entry.bucket)) lent).0))
+
+        pub read_held : (l : Ledger) (r : Represents t l) → IsSome (segment_at t.memory.slots found.entry.segment)
+        read_held l r = house_held t l (of l r).chunk found.entry.segment found.entry.bucket (read_house l r)
+
+        pub read_place : (l : Ledger) (r : Represents t l) →
+            HasPlace t.memory_registry t.memory found.entry.segment found.entry.bucket
+        read_place l r = house_place t l (of l r).chunk found.entry.segment found.entry.bucket (read_house l r)
 
         -- a pointer to it
         module _ (pointer : ℕ) (pointer_is : (p : HasPlace t.memory_registry t.memory found.entry.segment

@@ -42,6 +42,7 @@ pub enum LoanError {
 impl Transport {
     /// Loans a chunk of zeros, in any free bucket of the current segment; where that doesn't serve it, another segment
     /// is made, unless the memory is static. The name is greater than all before it, and there is room for its entry.
+    #[tactic(none)]
     pub fn loan(
         &mut self,
         alloc: Global,
@@ -99,6 +100,7 @@ impl Transport {
 }
 
 /// The table of the buckets of the segment that a loan of this layout makes, if it makes one.
+#[tactic(none)]
 fn next_owners(
     alloc: Global,
     memory: &TransportMemory,
@@ -121,6 +123,7 @@ fn next_owners(
 }
 
 /// Puts zeros into the bucket that starts at a pointer, and tells the bucket's index.
+#[tactic(none)]
 fn clear_bucket(
     reg: &mut MemoryRegistry,
     memory: &TransportMemory,
@@ -141,6 +144,7 @@ fn clear_bucket(
 }
 
 /// Adds the table of a new segment, if there is one.
+#[tactic(none)]
 fn add_table(owners: &mut Vec<Owners>, table: Option<Owners>)
     requires room { vec_len owners.old + tables_in table ≤ vec_capacity owners.old }
     ensures owners { map vec_items owners.new.items ≡ with_table (map vec_items owners.old.items) table }
@@ -153,6 +157,7 @@ fn add_table(owners: &mut Vec<Owners>, table: Option<Owners>)
 }
 
 /// A bucket of a segment leads to the entry at an index.
+#[tactic(none)]
 fn set_owner(owners: &mut Vec<Owners>, segment: u8, bucket: usize, index: usize)
     requires place { bucket < length (table_at (map vec_items owners.old.items) segment) }
     ensures owners { map vec_items owners.new.items
@@ -164,6 +169,7 @@ fn set_owner(owners: &mut Vec<Owners>, segment: u8, bucket: usize, index: usize)
 }
 
 /// The refusal of the same name as the memory's; only memory that grows runs out.
+#[tactic(none)]
 fn loan_error(error: ResizableShmAllocationError) -> LoanError
     requires comes { CanCome error }
     ensures answer { result ≡ loan_answer error }

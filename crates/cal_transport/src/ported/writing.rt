@@ -25,6 +25,7 @@ use cal_resizable::{DynamicMemory, SegmentsHolder};
 impl Transport {
     /// Writes bytes into a loaned chunk that wasn't sent yet, from a place in the chunk on. A refused write changes
     /// nothing; the refusals are `NotLoaned`, then `WriteAfterSend`, then `OutsideChunk`.
+    #[tactic(none)]
     pub fn write(&mut self, chunk: usize, at: usize, bytes: &[u8]) -> Result<(), Refusal>
         ensures step { WriteDoes self.old chunk at bytes.now result self.new }
         ensures room { TakesRoomOfOne self.old self.new }
@@ -62,6 +63,7 @@ impl Transport {
 }
 
 /// The size in bytes of the buckets of a segment that the memory has.
+#[tactic(none)]
 pub(crate) fn size_at(memory: &TransportMemory, reg: &MemoryRegistry, segment: u8) -> usize
     requires has { HasAll reg.now memory.now }
     requires active { IsSome (segment_at memory.now.slots segment) }
@@ -79,6 +81,7 @@ pub(crate) fn exceeds_bucket(size: usize, at: usize, length: usize) -> bool
 }
 
 /// Puts bytes into a segment of the memory, from a pointer on.
+#[tactic(none)]
 fn put_bytes(
     reg: &mut MemoryRegistry,
     memory: &TransportMemory,
@@ -96,6 +99,7 @@ fn put_bytes(
 }
 
 /// Puts so many zeros into a segment of the memory, from a pointer on.
+#[tactic(none)]
 pub(crate) fn put_zeros(
     reg: &mut MemoryRegistry,
     memory: &TransportMemory,
