@@ -138,6 +138,7 @@ fn clear_bucket(
         PutsBytes memory.now view.now reg.old (segment_of pointer) (offset_of pointer)
         (replicate b.segment.allocator.buckets.size 0) reg.new }
 {
+    a_memory_stays_with_its_view::<PoolAllocator>();
     let size = size_at(memory, reg, pointer.segment_id().value());
     put_zeros(reg, memory, view, pointer, size);
     pointer.offset() / size
