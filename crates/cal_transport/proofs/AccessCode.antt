@@ -1,6 +1,7 @@
 -- What is told of a chunk, from what the look-ups say.
-use Rattle.std.proofs.Common.{ℕ, ◌*◌, ◌≡◌, Bool, true, false, cond, not, ◌||◌, ◌&&◌, nat_eq, nat_lt, Option, Some, None, IsSome, refl, sym, ap, ◌∙◌, subst, arith}
+use Rattle.std.proofs.Common.{ℕ, ◌*◌, ◌≤◌, ◌≡◌, Bool, true, false, cond, not, ◌||◌, ◌&&◌, nat_eq, nat_lt, Option, Some, None, IsSome, refl, sym, ap, ◌∙◌, subst, arith}
 use Rattle.std.proofs.lemmas.Bool.Decides.{nat_tests}
+use Rattle.cal_alloc.specs.Limits.{max_memory_size}
 use Rattle.cal_alloc.specs.Pool.{Pool}
 use Rattle.cal_shm.specs.Segment.{Segment}
 use Rattle.cal_resizable.specs.Chunks.{segment_value}
@@ -45,6 +46,15 @@ module _ (t : TransportState) (name : ℕ) where
 
       pub told_held : (l : Ledger) (r : Represents t l) → IsSome (segment_at t.memory.slots found.entry.segment)
       told_held l r = house_held t l (of l r).chunk found.entry.segment found.entry.bucket (told_house l r)
+
+      -- its place is within the limits of memory
+      pub told_small : (l : Ledger) (r : Represents t l) (size : ℕ) → ((s : Segment Pool) →
+          segment_value t.memory_registry t.memory.slots found.entry.segment ≡ Some s →
+          size ≡ s.allocator.buckets.size) → found.entry.bucket * size ≤ max_memory_size
+      told_small l r size size_is =
+          subst (λ n. found.entry.bucket * n ≤ max_memory_size)
+          (sym (size_is (told_house l r).segment (told_house l r).there))
+          (let small = (told_house l r).small in omega arith)
 
       pub told_live : (size : ℕ) → ((s : Segment Pool) →
           segment_value t.memory_registry t.memory.slots found.entry.segment ≡ Some s →

@@ -199,5 +199,6 @@ module _ (b : SegmentLayout) (m : AreMakeable b) where
       alignment = b.alignment;
     })).count false ∙ ap (λ (c : SegmentLayout). c.count) cut;
     none_out = refl;
-    payload = (let long = length-replicate {A = ℕ} (b.size * b.count) 0 in omega arith);
+    payload = (let long : length {A = ℕ} (replicate (b.size * b.count) 0) ≡ b.size * b.count =
+        length-replicate (b.size * b.count) 0 in omega arith);
   }

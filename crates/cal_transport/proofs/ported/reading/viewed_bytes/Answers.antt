@@ -34,7 +34,7 @@ returns c =
           (held_active reg memory view number (λ (s : Segment Pool). IsInPayload s.payload start c.args.count)
           c.requires.within) c.requires.mapped)
           (λ (s : Segment Pool). c.bytes.result.now ≡ slice_range s.payload start (start + c.args.count))
-          c.bytes.ensures c.requires.mapped found is
+          c.bytes.ensures.bytes c.requires.mapped found is
           ∙ ap (λ n. take n (drop start found.payload))
           (let e : start + c.args.count - start ≡ c.args.count = omega arith in e);
     }

@@ -65,22 +65,91 @@ returns-then-exceeds_bucket c =
   }
 
 pub returns-then-is_empty : goal.returns-then-is_empty
-returns-then-is_empty c = ?
+returns-then-is_empty c =
+    let is = subst (λ es. IsFound es c.args.chunk c.in-Some.found) c.deref.ensures.value c.in-Some.ensures.found in
+    let within = ltb-false c.size_at-size.result (c.args.at + length c.args.bytes.now)
+    (sym c.exceeds_bucket.ensures.passes ∙ c.if-exceeds_bucket.false) in
+    record {
+      step = subst (λ t. DoesAnywhere t (command.Write c.args.chunk c.args.at c.args.bytes.now) Written t)
+          c.self.view_is
+          (write_none_does (state_of c.self.inside) c.args.chunk c.args.at c.args.bytes.now c.in-Some.found is
+    c.if-not-loaned.false c.if-sent.false c.size_at-size.result c.size_at-size.ensures.size within (omega arith));
+      room = record { spare = omega arith; in_transit = omega arith };
+    }
 
 pub overflow_mul-place : goal.overflow_mul-place
-overflow_mul-place c = ?
+overflow_mul-place c =
+    let is = subst (λ es. IsFound es c.args.chunk c.in-Some.found) c.deref.ensures.value c.in-Some.ensures.found in
+    let within = ltb-false c.size_at-size.result (c.args.at + length c.args.bytes.now)
+    (sym c.exceeds_bucket.ensures.passes ∙ c.if-exceeds_bucket.false) in
+    let small = write_place (state_of c.self.inside) c.args.chunk c.args.at c.args.bytes.now c.in-Some.found is
+    c.if-not-loaned.false c.if-sent.false c.size_at-size.result c.size_at-size.ensures.size within
+    c.self.invariant.ledger c.self.invariant.represents (omega arith) in omega arith
 
 pub overflow_add-place : goal.overflow_add-place
-overflow_add-place c = ?
+overflow_add-place c =
+    let is = subst (λ es. IsFound es c.args.chunk c.in-Some.found) c.deref.ensures.value c.in-Some.ensures.found in
+    let within = ltb-false c.size_at-size.result (c.args.at + length c.args.bytes.now)
+    (sym c.exceeds_bucket.ensures.passes ∙ c.if-exceeds_bucket.false) in
+    let small = write_place (state_of c.self.inside) c.args.chunk c.args.at c.args.bytes.now c.in-Some.found is
+    c.if-not-loaned.false c.if-sent.false c.size_at-size.result c.size_at-size.ensures.size within
+    c.self.invariant.ledger c.self.invariant.represents (omega arith) in omega arith
 
 pub from_offset_and_segment_id-pointer-requires : goal.from_offset_and_segment_id-pointer-requires
-from_offset_and_segment_id-pointer-requires c = ?
+from_offset_and_segment_id-pointer-requires c =
+    let is = subst (λ es. IsFound es c.args.chunk c.in-Some.found) c.deref.ensures.value c.in-Some.ensures.found in
+    let within = ltb-false c.size_at-size.result (c.args.at + length c.args.bytes.now)
+    (sym c.exceeds_bucket.ensures.passes ∙ c.if-exceeds_bucket.false) in
+    record { below = write_place (state_of c.self.inside) c.args.chunk c.args.at c.args.bytes.now c.in-Some.found is
+    c.if-not-loaned.false c.if-sent.false c.size_at-size.result c.size_at-size.ensures.size within
+    c.self.invariant.ledger c.self.invariant.represents (omega arith) }
 
 pub put_bytes-requires-clause-within : goal.put_bytes-requires-clause-within
-put_bytes-requires-clause-within c = ?
+put_bytes-requires-clause-within c =
+    let is = subst (λ es. IsFound es c.args.chunk c.in-Some.found) c.deref.ensures.value c.in-Some.ensures.found in
+    let within = ltb-false c.size_at-size.result (c.args.at + length c.args.bytes.now)
+    (sym c.exceeds_bucket.ensures.passes ∙ c.if-exceeds_bucket.false) in
+    write_payload (state_of c.self.inside) c.args.chunk c.args.at c.args.bytes.now c.in-Some.found is
+    c.if-not-loaned.false c.if-sent.false c.size_at-size.result c.size_at-size.ensures.size within
+    c.from_offset_and_segment_id-pointer.result
+    (c.from_offset_and_segment_id-pointer.ensures.segment_back ∙ c.new.ensures.value)
+    c.from_offset_and_segment_id-pointer.ensures.offset_back
+    c.self.invariant.ledger c.self.invariant.represents
 
 pub invariant_of-self : goal.invariant_of-self
-invariant_of-self c = ?
+invariant_of-self c =
+    let is = subst (λ es. IsFound es c.args.chunk c.in-Some.found) c.deref.ensures.value c.in-Some.ensures.found in
+    let within = ltb-false c.size_at-size.result (c.args.at + length c.args.bytes.now)
+    (sym c.exceeds_bucket.ensures.passes ∙ c.if-exceeds_bucket.false) in
+    record {
+      ledger = after_step c.self.invariant.ledger 0 (command.Write c.args.chunk c.args.at c.args.bytes.now) Written;
+      represents = (written_does (state_of c.self.inside) c.args.chunk c.args.at c.args.bytes.now c.in-Some.found is
+    c.if-not-loaned.false c.if-sent.false c.size_at-size.result c.size_at-size.ensures.size within
+          c.from_offset_and_segment_id-pointer.result
+    (c.from_offset_and_segment_id-pointer.ensures.segment_back ∙ c.new.ensures.value)
+    c.from_offset_and_segment_id-pointer.ensures.offset_back
+          c.put_bytes.new.reg c.put_bytes.ensures.put 0 c.self.invariant.ledger c.self.invariant.represents).1;
+      linked = written_linked (state_of c.self.inside) c.args.chunk c.args.at c.args.bytes.now c.in-Some.found is
+    c.if-not-loaned.false c.if-sent.false c.size_at-size.result c.size_at-size.ensures.size within
+          c.from_offset_and_segment_id-pointer.result
+    (c.from_offset_and_segment_id-pointer.ensures.segment_back ∙ c.new.ensures.value)
+    c.from_offset_and_segment_id-pointer.ensures.offset_back
+          c.put_bytes.new.reg c.put_bytes.ensures.put c.self.invariant.linked;
+    }
 
 pub returns : goal.returns
-returns c = ?
+returns c =
+    let is = subst (λ es. IsFound es c.args.chunk c.in-Some.found) c.deref.ensures.value c.in-Some.ensures.found in
+    let within = ltb-false c.size_at-size.result (c.args.at + length c.args.bytes.now)
+    (sym c.exceeds_bucket.ensures.passes ∙ c.if-exceeds_bucket.false) in
+    record {
+      step = subst (λ t. DoesAnywhere t (command.Write c.args.chunk c.args.at c.args.bytes.now) Written
+          (record (state_of c.self.inside) { memory_registry = c.put_bytes.new.reg })) c.self.view_is
+          (written_does (state_of c.self.inside) c.args.chunk c.args.at c.args.bytes.now c.in-Some.found is
+    c.if-not-loaned.false c.if-sent.false c.size_at-size.result c.size_at-size.ensures.size within
+          c.from_offset_and_segment_id-pointer.result
+    (c.from_offset_and_segment_id-pointer.ensures.segment_back ∙ c.new.ensures.value)
+    c.from_offset_and_segment_id-pointer.ensures.offset_back
+          c.put_bytes.new.reg c.put_bytes.ensures.put);
+      room = record { spare = omega arith; in_transit = omega arith };
+    }
