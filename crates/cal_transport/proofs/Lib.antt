@@ -94,3 +94,4 @@ pub mod LoanDone
 pub mod Viewed
 pub mod AccessCode
 pub mod LiveFew
+pub mod LoanCalls

@@ -1,16 +1,25 @@
 -- What the memory's call says of a loan, by its answer.
-use Rattle.std.proofs.Common.{ℕ, ◌≡◌, ◌⊎◌, inl, inr, true, Option, Some, None, is_some, IsSome, Result, Ok, Err, refl, sym, ap, ◌∙◌, subst}
+use Rattle.std.proofs.Common.{ℕ, ◌<◌, ◌≡◌, ◌⊎◌, inl, inr, true, Option, Some, None, is_some, IsSome, Result, Ok, Err, Vec, refl, sym, ap, ◌∙◌, subst}
 use Rattle.std.specs.Prelude.{IfSome}
 use Rattle.std.specs.Int.{is_power_of_two}
-use Rattle.cal_alloc.specs.Pool.{Pool, pool_refusal}
+use Rattle.cal_alloc.specs.Pool.{Pool, pool_refusal, pool_properties}
+use Rattle.cal_alloc.specs.PointerOffset.{segment_of}
 use Rattle.cal_alloc.specs.SizeAndAlignment.{SizeAndAlignment}
+use Rattle.cal_alloc.specs.declared.pool_allocator.Config.{Config}
+use Rattle.cal_alloc.specs.declared.shm_allocator.SharedMemorySetupHint.{SharedMemorySetupHint}
+use Rattle.cal_storage.specs.Contents.{Contents}
+use Rattle.cal_shm.specs.Calls.{IsChunkWithin}
 use Rattle.cal_shm.specs.Segment.{Segment}
 use Rattle.cal_shm.specs.declared.errors.SharedMemoryCreateError.TheVariants as create
-use Rattle.cal_resizable.specs.Chunks.{segment_value}
-use Rattle.cal_resizable.specs.Growth.{OfSegment, allocation_refusal, AllocatesAfter, next_number_of_buckets}
+use Rattle.cal_resizable.specs.Chunks.{segment_value, GrowsTo}
+use Rattle.cal_resizable.specs.Growth.{OfSegment, allocation_refusal, AllocatesAfter, made_segment, grown_contents, grown_memory, next_number_of_buckets}
+use Rattle.cal_resizable.specs.Memory.{MemoryState}
+use Rattle.cal_resizable.specs.Together.{AreTogether}
 use Rattle.cal_resizable.specs.declared.errors.ResizableShmAllocationError.{ResizableShmAllocationError}
 use Rattle.cal_resizable.specs.declared.errors.ResizableShmAllocationError.TheVariants as error
 use Rattle.cal_transport.specs.declared.reply.Refusal.{Refusal}
+use Rattle.std.specs.declared.alloc.Global.{Global}
+use Rattle.cal_transport.specs.Owning.{IsTableFor}
 use Rattle.cal_transport.specs.State.{TransportState}
 use Rattle.cal_transport.specs.Ledger.{Ledger}
 use Rattle.cal_transport.specs.Cause.{current_segment}
@@ -18,6 +27,7 @@ use Rattle.cal_transport.specs.ChunkEntry.{AreBelow}
 use Rattle.cal_transport.specs.LoanCause.{loan_cause}
 use Rattle.cal_transport.specs.State.{IsLinked, Represents}
 use Rattle.cal_transport.proofs.LoanCauses.{AreAlike, has_current, alike}
+use Rattle.cal_transport.proofs.LoanDone.{Between, between}
 use Rattle.cal_transport.proofs.PoolRules.{pool_rules}
 use Rattle.cal_transport.proofs.Segments.{of_shown}
 use Rattle.cal_transport.proofs.Settled.{settled}
@@ -102,3 +112,34 @@ no_cause t linked size alignment power none l r =
     go : (o : Option Refusal) → AreAlike o None → o ≡ None
     go None both = refl
     go (Some why) both = absurd both
+
+-- the calls on the memory, where a pointer was handed out
+pub record PointerCalls (t : TransportState) (size alignment pointer : ℕ) (handed : Contents (Segment Pool))
+    (memory : MemoryState) (table : Option (Vec ℕ Global)) : Type 0 where
+  pub allocated : OfSegment t.memory_registry t.memory.slots t.memory.current (λ s.
+      AllocatesAfter pool_rules t.memory_registry t.memory (record { size = size; alignment = alignment }) pointer
+      handed memory s.allocator (pool_refusal s.allocator (record { size = size; alignment = alignment })))
+  pub within : OfSegment handed memory.slots (segment_of pointer) (λ s.
+      IsChunkWithin pool_properties s (record { size = size; alignment = alignment }) pointer)
+  pub together : AreTogether handed memory t.view
+  pub growth : (hint : SharedMemorySetupHint Config) → t.memory.current < 255 →
+      GrowsTo t.memory_registry t.memory (made_segment pool_rules hint)
+      (grown_contents pool_rules t.memory_registry t.memory hint) (grown_memory t.memory_registry t.memory)
+  pub tabled : (segment : Segment Pool) →
+      segment_value t.memory_registry t.memory.slots t.memory.current ≡ Some segment →
+      IsTableFor (next_number_of_buckets t.memory.strategy t.memory.current
+      (record { size = size; alignment = alignment }) segment.allocator) (Ok table)
+
+pub between_calls : (t : TransportState) (linked : IsLinked t) (size alignment : ℕ) →
+    is_power_of_two alignment ≡ true → (l : Ledger) → Represents t l → (pointer : ℕ)
+    (handed : Contents (Segment Pool)) (memory : MemoryState) (table : Option (Vec ℕ Global)) →
+    PointerCalls t size alignment pointer handed memory table → Between t size alignment pointer handed memory table
+between_calls t linked size alignment power l r pointer handed memory table calls =
+    let here = has_current t l (settled l r.place r.sound) r.shows in
+    between t linked size alignment power here.segment here.there pointer handed memory calls.together.memory_sound
+    calls.growth table
+    (of_shown t.memory_registry t.memory.slots t.memory.current (λ s.
+    AllocatesAfter pool_rules t.memory_registry t.memory (record { size = size; alignment = alignment }) pointer
+    handed memory s.allocator (pool_refusal s.allocator (record { size = size; alignment = alignment })))
+    here.segment calls.allocated here.there)
+    (calls.tabled here.segment here.there)

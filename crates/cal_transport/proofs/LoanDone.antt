@@ -297,22 +297,29 @@ module _ (t : TransportState) (linked : IsLinked t) (name size alignment : ℕ) 
             (with_allocator b.given.was b.given.left) within there;
       }
 
-  module _ (cleared : Contents (Segment Pool))
+  module _ (starts : StartsBucket handed memory (segment_of pointer) (offset_of pointer))
+      (cleared : Contents (Segment Pool))
       (put : PutsBytes memory t.view handed (segment_of pointer) (offset_of pointer)
-      (replicate (with_allocator b.given.was b.given.left).allocator.buckets.size 0) cleared)
-      (bucket : ℕ)
-      (bucket_is : bucket ≡ offset_of pointer / (with_allocator b.given.was b.given.left).allocator.buckets.size)
+      (replicate starts.segment.allocator.buckets.size 0) cleared)
+      (bucket : ℕ) (bucket_is : bucket ≡ offset_of pointer / starts.segment.allocator.buckets.size)
       (spare tables : ℕ) (room : t.spare_tables ≡ tables + tables_in table) where
+    size_there : starts.segment.allocator.buckets.size ≡ b.given.was.allocator.buckets.size
+    size_there =
+        ap (λ (s : Segment Pool). s.allocator.buckets.size)
+        (same_Some starts.segment (with_allocator b.given.was b.given.left)
+        (sym starts.there ∙ ap (segment_value handed memory.slots) b.given.carries ∙ b.given.becomes))
+        ∙ left_size
+
     abbrev m : TransportState
     m = between_state t b.contents b.grown table
 
     put_there : PutsBytes memory t.view handed (segment_of pointer) (offset_of pointer)
         (replicate b.given.was.allocator.buckets.size 0) cleared
     put_there = subst (λ n. PutsBytes memory t.view handed (segment_of pointer) (offset_of pointer) (replicate n 0)
-        cleared) left_size put
+        cleared) size_there put
 
     bucket_there : bucket ≡ offset_of pointer / b.given.was.allocator.buckets.size
-    bucket_there = bucket_is ∙ ap (λ n. offset_of pointer / n) left_size
+    bucket_there = bucket_is ∙ ap (λ n. offset_of pointer / n) size_there
 
     abbrev pub loaned_state : TransportState
     loaned_state = record t {
