@@ -51,11 +51,11 @@ module _ (slots : Slots) (number : ℕ) (within : number < length slots) where
   still : (other : ℕ) (held : HeldSegment) → segment_at slots other ≡ Some held → HoldsStill slots number other held
   still other held there = elim (same_or_apart other number) [
     | inl same ↦ record {
-        now = record held { count = held.count + 1 };
-        there = ap (segment_at (with_more slots number)) same ∙ more_here
-            ∙ ap counted_more (ap (segment_at slots) (sym same) ∙ there);
-        same = refl;
-      }
+      now = record held { count = held.count + 1 };
+      there = ap (segment_at (with_more slots number)) same ∙ more_here
+          ∙ ap counted_more (ap (segment_at slots) (sym same) ∙ there);
+      same = refl;
+    }
     | inr apart ↦ record { now = held; there = more_else other apart ∙ there; same = refl }
   ]
 

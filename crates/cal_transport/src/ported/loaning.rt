@@ -73,12 +73,7 @@ impl Transport {
             Ok(pointer) => pointer.offset,
             Err(error) => return Err(loan_error(error)),
         };
-        let bucket = clear_bucket(
-            &mut self.memory_registry,
-            &self.memory,
-            &self.view,
-            pointer,
-        );
+        let bucket = clear_bucket(&mut self.memory_registry, &self.memory, &self.view, pointer);
         let segment = pointer.segment_id().value();
         let index = self.entries.len();
         add_table(&mut self.owners, table);

@@ -49,8 +49,7 @@ impl Transport {
             return Ok(());
         }
         let place = found.entry.bucket * size + at;
-        let pointer =
-            PointerOffset::from_offset_and_segment_id(place, SegmentId::new(segment));
+        let pointer = PointerOffset::from_offset_and_segment_id(place, SegmentId::new(segment));
         put_bytes(
             &mut self.memory_registry,
             &self.memory,

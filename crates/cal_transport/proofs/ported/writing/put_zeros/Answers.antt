@@ -10,6 +10,5 @@ use Rattle.cal_transport.proofs.ported.writing.put_zeros.Goals as goal
 pub bytes_mut-requires : goal.bytes_mut-requires
 bytes_mut-requires c = ?
 
-
 pub returns : goal.returns
 returns c = ?

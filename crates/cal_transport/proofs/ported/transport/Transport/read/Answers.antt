@@ -95,7 +95,7 @@ returns-then-exceeds_bucket c =
       step = subst (λ t. DoesAnywhere t (command.Read c.args.channel c.args.chunk c.args.at c.args.length)
           (Refused refusal.OutsideChunk) t) c.self.view_is
           (read_past_does (state_of c.self.inside) c.self.invariant.linked c.args.channel c.args.chunk
-    c.args.at c.args.length c.if-channel-self.false c.in-Some.found is lent
+          c.args.at c.args.length c.if-channel-self.false c.in-Some.found is lent
           c.size_at-size.result c.size_at-size.ensures.size
           (ltb-true c.size_at-size.result (c.args.at + c.args.length)
           (sym c.exceeds_bucket.ensures.passes ∙ c.if-exceeds_bucket.true)));
@@ -148,7 +148,7 @@ returns c =
           (Shown (take (c.args.at + c.args.length - c.args.at) (drop c.args.at c.viewed_bytes-bytes.result.now))) t)
           c.self.view_is
           (read_does (state_of c.self.inside) c.self.invariant.linked c.args.channel c.args.chunk
-    c.args.at c.args.length c.if-channel-self.false c.in-Some.found is lent
+          c.args.at c.args.length c.if-channel-self.false c.in-Some.found is lent
           c.pointer_at-pointer.result c.pointer_at-pointer.ensures.pointer c.size_at-size.result
           c.size_at-size.ensures.size c.viewed_bytes-bytes.result.now c.viewed_bytes-bytes.ensures.bytes
           (ltb-false c.size_at-size.result (c.args.at + c.args.length)

@@ -21,32 +21,32 @@ find_entry-requires c = record {
 
 pub returns-in-None : goal.returns-in-None
 returns-in-None c =
-  record {
-    step = subst (λ t. DoesAnywhere t (command.Write c.args.chunk c.args.at c.args.bytes.now) (Refused refusal.NotLoaned) t)
-        c.self.view_is
-        (write_unknown_does (state_of c.self.inside) c.args.chunk c.args.at c.args.bytes.now (subst (λ es. HasNoEntry es c.args.chunk) c.deref.ensures.value c.in-None.ensures.found));
-    room = record { spare = omega arith; in_transit = omega arith };
-  }
+    record {
+      step = subst (λ t. DoesAnywhere t (command.Write c.args.chunk c.args.at c.args.bytes.now) (Refused refusal.NotLoaned) t)
+          c.self.view_is
+          (write_unknown_does (state_of c.self.inside) c.args.chunk c.args.at c.args.bytes.now (subst (λ es. HasNoEntry es c.args.chunk) c.deref.ensures.value c.in-None.ensures.found));
+      room = record { spare = omega arith; in_transit = omega arith };
+    }
 
 pub returns-then-not-loaned : goal.returns-then-not-loaned
 returns-then-not-loaned c =
     let is = subst (λ es. IsFound es c.args.chunk c.in-Some.found) c.deref.ensures.value c.in-Some.ensures.found in
-  record {
-    step = subst (λ t. DoesAnywhere t (command.Write c.args.chunk c.args.at c.args.bytes.now) (Refused refusal.NotLoaned) t)
-        c.self.view_is
-        (write_ended_does (state_of c.self.inside) c.args.chunk c.args.at c.args.bytes.now c.in-Some.found is c.if-not-loaned.true);
-    room = record { spare = omega arith; in_transit = omega arith };
-  }
+    record {
+      step = subst (λ t. DoesAnywhere t (command.Write c.args.chunk c.args.at c.args.bytes.now) (Refused refusal.NotLoaned) t)
+          c.self.view_is
+          (write_ended_does (state_of c.self.inside) c.args.chunk c.args.at c.args.bytes.now c.in-Some.found is c.if-not-loaned.true);
+      room = record { spare = omega arith; in_transit = omega arith };
+    }
 
 pub returns-then-sent : goal.returns-then-sent
 returns-then-sent c =
     let is = subst (λ es. IsFound es c.args.chunk c.in-Some.found) c.deref.ensures.value c.in-Some.ensures.found in
-  record {
-    step = subst (λ t. DoesAnywhere t (command.Write c.args.chunk c.args.at c.args.bytes.now) (Refused refusal.WriteAfterSend) t)
-        c.self.view_is
-        (write_sent_does (state_of c.self.inside) c.args.chunk c.args.at c.args.bytes.now c.in-Some.found is c.if-not-loaned.false c.if-sent.true);
-    room = record { spare = omega arith; in_transit = omega arith };
-  }
+    record {
+      step = subst (λ t. DoesAnywhere t (command.Write c.args.chunk c.args.at c.args.bytes.now) (Refused refusal.WriteAfterSend) t)
+          c.self.view_is
+          (write_sent_does (state_of c.self.inside) c.args.chunk c.args.at c.args.bytes.now c.in-Some.found is c.if-not-loaned.false c.if-sent.true);
+      room = record { spare = omega arith; in_transit = omega arith };
+    }
 
 pub size_at-size-requires-clause-active : goal.size_at-size-requires-clause-active
 size_at-size-requires-clause-active c =
@@ -57,12 +57,12 @@ size_at-size-requires-clause-active c =
 pub returns-then-exceeds_bucket : goal.returns-then-exceeds_bucket
 returns-then-exceeds_bucket c =
     let is = subst (λ es. IsFound es c.args.chunk c.in-Some.found) c.deref.ensures.value c.in-Some.ensures.found in
-  record {
-    step = subst (λ t. DoesAnywhere t (command.Write c.args.chunk c.args.at c.args.bytes.now) (Refused refusal.OutsideChunk) t)
-        c.self.view_is
-        (write_outside_does (state_of c.self.inside) c.args.chunk c.args.at c.args.bytes.now c.in-Some.found is c.if-not-loaned.false c.if-sent.false c.size_at-size.result c.size_at-size.ensures.size (ltb-true c.size_at-size.result (c.args.at + length c.args.bytes.now) (sym c.exceeds_bucket.ensures.passes ∙ c.if-exceeds_bucket.true)));
-    room = record { spare = omega arith; in_transit = omega arith };
-  }
+    record {
+      step = subst (λ t. DoesAnywhere t (command.Write c.args.chunk c.args.at c.args.bytes.now) (Refused refusal.OutsideChunk) t)
+          c.self.view_is
+          (write_outside_does (state_of c.self.inside) c.args.chunk c.args.at c.args.bytes.now c.in-Some.found is c.if-not-loaned.false c.if-sent.false c.size_at-size.result c.size_at-size.ensures.size (ltb-true c.size_at-size.result (c.args.at + length c.args.bytes.now) (sym c.exceeds_bucket.ensures.passes ∙ c.if-exceeds_bucket.true)));
+      room = record { spare = omega arith; in_transit = omega arith };
+    }
 
 pub returns-then-is_empty : goal.returns-then-is_empty
 returns-then-is_empty c =
@@ -73,7 +73,7 @@ returns-then-is_empty c =
       step = subst (λ t. DoesAnywhere t (command.Write c.args.chunk c.args.at c.args.bytes.now) Written t)
           c.self.view_is
           (write_none_does (state_of c.self.inside) c.args.chunk c.args.at c.args.bytes.now c.in-Some.found is
-    c.if-not-loaned.false c.if-sent.false c.size_at-size.result c.size_at-size.ensures.size within (omega arith));
+          c.if-not-loaned.false c.if-sent.false c.size_at-size.result c.size_at-size.ensures.size within (omega arith));
       room = record { spare = omega arith; in_transit = omega arith };
     }
 
@@ -100,9 +100,11 @@ from_offset_and_segment_id-pointer-requires c =
     let is = subst (λ es. IsFound es c.args.chunk c.in-Some.found) c.deref.ensures.value c.in-Some.ensures.found in
     let within = ltb-false c.size_at-size.result (c.args.at + length c.args.bytes.now)
     (sym c.exceeds_bucket.ensures.passes ∙ c.if-exceeds_bucket.false) in
-    record { below = write_place (state_of c.self.inside) c.args.chunk c.args.at c.args.bytes.now c.in-Some.found is
-    c.if-not-loaned.false c.if-sent.false c.size_at-size.result c.size_at-size.ensures.size within
-    c.self.invariant.ledger c.self.invariant.represents (omega arith) }
+    record {
+      below = write_place (state_of c.self.inside) c.args.chunk c.args.at c.args.bytes.now c.in-Some.found is
+          c.if-not-loaned.false c.if-sent.false c.size_at-size.result c.size_at-size.ensures.size within
+          c.self.invariant.ledger c.self.invariant.represents (omega arith);
+    }
 
 pub put_bytes-requires-clause-within : goal.put_bytes-requires-clause-within
 put_bytes-requires-clause-within c =
@@ -124,16 +126,16 @@ invariant_of-self c =
     record {
       ledger = after_step c.self.invariant.ledger 0 (command.Write c.args.chunk c.args.at c.args.bytes.now) Written;
       represents = (written_does (state_of c.self.inside) c.args.chunk c.args.at c.args.bytes.now c.in-Some.found is
-    c.if-not-loaned.false c.if-sent.false c.size_at-size.result c.size_at-size.ensures.size within
+          c.if-not-loaned.false c.if-sent.false c.size_at-size.result c.size_at-size.ensures.size within
           c.from_offset_and_segment_id-pointer.result
-    (c.from_offset_and_segment_id-pointer.ensures.segment_back ∙ c.new.ensures.value)
-    c.from_offset_and_segment_id-pointer.ensures.offset_back
+          (c.from_offset_and_segment_id-pointer.ensures.segment_back ∙ c.new.ensures.value)
+          c.from_offset_and_segment_id-pointer.ensures.offset_back
           c.put_bytes.new.reg c.put_bytes.ensures.put 0 c.self.invariant.ledger c.self.invariant.represents).1;
       linked = written_linked (state_of c.self.inside) c.args.chunk c.args.at c.args.bytes.now c.in-Some.found is
-    c.if-not-loaned.false c.if-sent.false c.size_at-size.result c.size_at-size.ensures.size within
+          c.if-not-loaned.false c.if-sent.false c.size_at-size.result c.size_at-size.ensures.size within
           c.from_offset_and_segment_id-pointer.result
-    (c.from_offset_and_segment_id-pointer.ensures.segment_back ∙ c.new.ensures.value)
-    c.from_offset_and_segment_id-pointer.ensures.offset_back
+          (c.from_offset_and_segment_id-pointer.ensures.segment_back ∙ c.new.ensures.value)
+          c.from_offset_and_segment_id-pointer.ensures.offset_back
           c.put_bytes.new.reg c.put_bytes.ensures.put c.self.invariant.linked;
     }
 
@@ -146,10 +148,10 @@ returns c =
       step = subst (λ t. DoesAnywhere t (command.Write c.args.chunk c.args.at c.args.bytes.now) Written
           (record (state_of c.self.inside) { memory_registry = c.put_bytes.new.reg })) c.self.view_is
           (written_does (state_of c.self.inside) c.args.chunk c.args.at c.args.bytes.now c.in-Some.found is
-    c.if-not-loaned.false c.if-sent.false c.size_at-size.result c.size_at-size.ensures.size within
+          c.if-not-loaned.false c.if-sent.false c.size_at-size.result c.size_at-size.ensures.size within
           c.from_offset_and_segment_id-pointer.result
-    (c.from_offset_and_segment_id-pointer.ensures.segment_back ∙ c.new.ensures.value)
-    c.from_offset_and_segment_id-pointer.ensures.offset_back
+          (c.from_offset_and_segment_id-pointer.ensures.segment_back ∙ c.new.ensures.value)
+          c.from_offset_and_segment_id-pointer.ensures.offset_back
           c.put_bytes.new.reg c.put_bytes.ensures.put);
       room = record { spare = omega arith; in_transit = omega arith };
     }
