@@ -38,3 +38,7 @@ pub mod TransitLines
 pub mod Reached
 pub mod Counting
 pub mod Sample
+pub mod Putting
+pub mod Owning
+pub mod LoanErrors
+pub mod ChunkTold
