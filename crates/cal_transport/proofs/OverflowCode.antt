@@ -1,5 +1,5 @@
--- A send that takes the oldest back, from what the calls on the port, the memory and the tables say: the oldest leaves the
--- state in which the chunk has joined the queue.
+-- A send that takes the oldest back, from what the calls on the port, the memory and the tables say: the oldest leaves
+-- the state in which the chunk has joined the queue.
 use Rattle.std.proofs.Common.{ℕ, ◌+◌, ◌-◌, ◌/◌, ◌<◌, ◌≡◌, ◌≢◌, Bool, true, false, ◌||◌, nat_lt, List, [], length, drop, set, get_or, Some, Ok, refl, sym, ap, ◌∙◌, subst, arith}
 use Rattle.std.specs.List.{slice_get}
 use Rattle.std.proofs.lemmas.Bool.{true≢false}

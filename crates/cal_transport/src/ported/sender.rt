@@ -8,7 +8,9 @@ ghost use Rattle.cal_transport.specs.Sample.{AnswersSample};
 use crate::ported::chunk_entry::{ChunkEntry, Found, find_entry};
 use crate::ported::pointing::{pointed_entry, pointer_at};
 use crate::ported::sharing::free_unless;
-use crate::ported::taking_back::{count_less, count_more, end_loan, enter_channel, leave_channel, slot_at};
+use crate::ported::taking_back::{
+    count_less, count_more, end_loan, enter_channel, leave_channel, slot_at,
+};
 use crate::ported::transport::Transport;
 use crate::reply::{Refusal, Slot};
 use cal_alloc::{PointerOffset, SegmentId};
@@ -99,10 +101,9 @@ impl Transport {
             found.entry.segment,
             found.entry.bucket,
         );
-        let size = self.memory.bucket_size(
-            &self.memory_registry,
-            SegmentId::new(found.entry.segment),
-        );
+        let size = self
+            .memory
+            .bucket_size(&self.memory_registry, SegmentId::new(found.entry.segment));
         let sent_on = ChannelId::new(channel);
         if self
             .sender

@@ -1,5 +1,5 @@
-//! What changes in a transport's tables where a chunk is sent, comes back to the sender or is discarded. All of it is over
-//! the tables alone, since they don't agree with the ports and the memory in between.
+//! What changes in a transport's tables where a chunk is sent, comes back to the sender or is discarded. All of it is
+//! over the tables alone, since they don't agree with the ports and the memory in between.
 
 ghost use Rattle.std.specs.Prelude.{◌≡◌, ◌<◌, ◌+◌, ◌-◌, ◌^◌, ◌||◌, true, false, nat_lt, vec_len, vec_capacity, slice_index_or, slice_set};
 ghost use Rattle.cal_alloc.specs.PointerOffset.{segment_of, offset_of};
@@ -77,7 +77,10 @@ pub(crate) fn count_less(transits: &mut Vec<usize>, channel: usize)
 /// Where the chunk of an entry lies, by its pointer.
 pub(crate) fn slot_at(entry: ChunkEntry, pointer: PointerOffset) -> Slot
     ensures slot { result ≡ record {
-        chunk = entry.name; segment = segment_of pointer; place = offset_of pointer } }
+      chunk = entry.name;
+      segment = segment_of pointer;
+      place = offset_of pointer;
+    } }
 {
     Slot {
         chunk: entry.name,

@@ -35,20 +35,23 @@ returns-then-not-found-clause-step c =
 pub pointer_at-pointer-requires-clause-place : goal.pointer_at-pointer-requires-clause-place
 pointer_at-pointer-requires-clause-place c =
     let is = subst (λ es. IsFound es c.args.chunk c.in-Some.found) c.deref.ensures.value c.in-Some.ensures.found in
-    (place (state_of c.self.inside) c.self.invariant.linked c.args.chunk c.in-Some.found is (not_false c.in-Some.found.entry.loaned c.if-not-found.false)
+    (place (state_of c.self.inside) c.self.invariant.linked c.args.chunk c.in-Some.found is (not_false
+    c.in-Some.found.entry.loaned c.if-not-found.false)
     c.self.invariant.ledger c.self.invariant.represents).place
 
 pub free_unless-requires-clause-out : goal.free_unless-requires-clause-out
 free_unless-requires-clause-out c =
     let is = subst (λ es. IsFound es c.args.chunk c.in-Some.found) c.deref.ensures.value c.in-Some.ensures.found in
-    discard_out (state_of c.self.inside) c.self.invariant.linked c.args.chunk c.in-Some.found is (not_false c.in-Some.found.entry.loaned c.if-not-found.false)
+    discard_out (state_of c.self.inside) c.self.invariant.linked c.args.chunk c.in-Some.found is (not_false
+    c.in-Some.found.entry.loaned c.if-not-found.false)
     c.pointer_at-pointer.result c.pointer_at-pointer.ensures.pointer
     c.self.invariant.ledger c.self.invariant.represents
 
 pub free_unless-requires-clause-used : goal.free_unless-requires-clause-used
 free_unless-requires-clause-used c =
     let is = subst (λ es. IsFound es c.args.chunk c.in-Some.found) c.deref.ensures.value c.in-Some.ensures.found in
-    discard_used (state_of c.self.inside) c.self.invariant.linked c.args.chunk c.in-Some.found is (not_false c.in-Some.found.entry.loaned c.if-not-found.false)
+    discard_used (state_of c.self.inside) c.self.invariant.linked c.args.chunk c.in-Some.found is (not_false
+    c.in-Some.found.entry.loaned c.if-not-found.false)
     c.pointer_at-pointer.result c.pointer_at-pointer.ensures.pointer
     c.self.invariant.ledger c.self.invariant.represents
 
@@ -65,7 +68,8 @@ pub invariant_of-self : goal.invariant_of-self
 invariant_of-self c =
     let is = subst (λ es. IsFound es c.args.chunk c.in-Some.found) c.deref.ensures.value c.in-Some.ensures.found in
     let does = discarded_does (state_of c.self.inside) c.self.invariant.linked c.args.chunk c.in-Some.found is
-    (not_false c.in-Some.found.entry.loaned c.if-not-found.false) c.pointer_at-pointer.result c.pointer_at-pointer.ensures.pointer
+    (not_false c.in-Some.found.entry.loaned c.if-not-found.false) c.pointer_at-pointer.result
+    c.pointer_at-pointer.ensures.pointer
     c.free_unless.new.reg c.free_unless.new.memory c.free_unless.ensures.freed
     c.end_loan.new.entries.items c.end_loan.ensures.written
     (vec_capacity c.end_loan.new.entries - vec_len c.end_loan.new.entries)
@@ -74,7 +78,8 @@ invariant_of-self c =
       ledger = after_step c.self.invariant.ledger 0 (command.Discard c.args.chunk) Discarded;
       represents = does.1;
       linked = discarded_linked (state_of c.self.inside) c.self.invariant.linked c.args.chunk c.in-Some.found is
-          (not_false c.in-Some.found.entry.loaned c.if-not-found.false) c.pointer_at-pointer.result c.pointer_at-pointer.ensures.pointer
+          (not_false c.in-Some.found.entry.loaned c.if-not-found.false) c.pointer_at-pointer.result
+          c.pointer_at-pointer.ensures.pointer
           c.free_unless.new.reg c.free_unless.new.memory c.free_unless.ensures.freed
           c.end_loan.new.entries.items c.end_loan.ensures.written
           (vec_capacity c.end_loan.new.entries - vec_len c.end_loan.new.entries)
@@ -91,7 +96,8 @@ returns-clause-step c =
       spare = vec_capacity c.end_loan.new.entries - vec_len c.end_loan.new.entries;
     })) c.self.view_is
     (discarded_does (state_of c.self.inside) c.self.invariant.linked c.args.chunk c.in-Some.found is
-    (not_false c.in-Some.found.entry.loaned c.if-not-found.false) c.pointer_at-pointer.result c.pointer_at-pointer.ensures.pointer
+    (not_false c.in-Some.found.entry.loaned c.if-not-found.false) c.pointer_at-pointer.result
+    c.pointer_at-pointer.ensures.pointer
     c.free_unless.new.reg c.free_unless.new.memory c.free_unless.ensures.freed
     c.end_loan.new.entries.items c.end_loan.ensures.written
     (vec_capacity c.end_loan.new.entries - vec_len c.end_loan.new.entries))

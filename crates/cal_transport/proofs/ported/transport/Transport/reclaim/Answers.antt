@@ -34,23 +34,27 @@ returns-then-channel-self-clause-step c =
 pub unreachable-requires : goal.unreachable-requires
 unreachable-requires c =
     let call = call_at (state_of c.self.inside) c.new.result c.args.channel c.new.ensures.value
-    c.reclaim-answer.result (Err c.in-Err.field-0) c.in-Err.is c.reclaim-answer.new.reg c.reclaim-answer.new.self (record {
+    c.reclaim-answer.result (Err c.in-Err.field-0) c.in-Err.is c.reclaim-answer.new.reg c.reclaim-answer.new.self
+    (record {
       answer_is = c.reclaim-answer.ensures.answer;
       registry_is = c.reclaim-answer.ensures.reclaimed;
       sender_is = c.reclaim-answer.ensures.port;
     }) in
     reclaim_answers (state_of c.self.inside) c.self.invariant.linked c.args.channel c.if-channel-self.false
-    c.self.invariant.ledger c.self.invariant.represents c.in-Err.field-0 c.reclaim-answer.new.reg c.reclaim-answer.new.self call
+    c.self.invariant.ledger c.self.invariant.represents c.in-Err.field-0 c.reclaim-answer.new.reg
+    c.reclaim-answer.new.self call
 
 pub invariant_of-self : goal.invariant_of-self
 invariant_of-self c =
     let call = call_at (state_of c.self.inside) c.new.result c.args.channel c.new.ensures.value
-    c.reclaim-answer.result (Ok None) (c.in-Ok.is ∙ ap Ok c.in-None.is) c.reclaim-answer.new.reg c.reclaim-answer.new.self (record {
+    c.reclaim-answer.result (Ok None) (c.in-Ok.is ∙ ap Ok c.in-None.is) c.reclaim-answer.new.reg
+    c.reclaim-answer.new.self (record {
       answer_is = c.reclaim-answer.ensures.answer;
       registry_is = c.reclaim-answer.ensures.reclaimed;
       sender_is = c.reclaim-answer.ensures.port;
     }) in
-    let same = reclaim_none_state (state_of c.self.inside) c.self.invariant.linked c.args.channel c.if-channel-self.false
+    let same = reclaim_none_state (state_of c.self.inside) c.self.invariant.linked c.args.channel
+    c.if-channel-self.false
     c.reclaim-answer.new.reg c.reclaim-answer.new.self call in
     record {
       ledger = c.self.invariant.ledger;
@@ -61,12 +65,14 @@ invariant_of-self c =
 pub returns-in-None-clause-step : goal.returns-in-None-clause-step
 returns-in-None-clause-step c =
     let call = call_at (state_of c.self.inside) c.new.result c.args.channel c.new.ensures.value
-    c.reclaim-answer.result (Ok None) (c.in-Ok.is ∙ ap Ok c.in-None.is) c.reclaim-answer.new.reg c.reclaim-answer.new.self (record {
+    c.reclaim-answer.result (Ok None) (c.in-Ok.is ∙ ap Ok c.in-None.is) c.reclaim-answer.new.reg
+    c.reclaim-answer.new.self (record {
       answer_is = c.reclaim-answer.ensures.answer;
       registry_is = c.reclaim-answer.ensures.reclaimed;
       sender_is = c.reclaim-answer.ensures.port;
     }) in
-    let same = reclaim_none_state (state_of c.self.inside) c.self.invariant.linked c.args.channel c.if-channel-self.false
+    let same = reclaim_none_state (state_of c.self.inside) c.self.invariant.linked c.args.channel
+    c.if-channel-self.false
     c.reclaim-answer.new.reg c.reclaim-answer.new.self call in
     subst (λ t. DoesAnywhere t (command.Reclaim c.args.channel) (Reclaimed None) (record (state_of c.self.inside) {
       connection_registry = c.reclaim-answer.new.reg;
@@ -79,7 +85,8 @@ returns-in-None-clause-step c =
 pub pointed_entry-found-requires-clause-points : goal.pointed_entry-found-requires-clause-points
 pointed_entry-found-requires-clause-points c =
     let call = call_at (state_of c.self.inside) c.new.result c.args.channel c.new.ensures.value
-    c.reclaim-answer.result (Ok (Some c.in-Some.pointer)) (c.in-Ok.is ∙ ap Ok c.in-Some.is) c.reclaim-answer.new.reg c.reclaim-answer.new.self (record {
+    c.reclaim-answer.result (Ok (Some c.in-Some.pointer)) (c.in-Ok.is ∙ ap Ok c.in-Some.is) c.reclaim-answer.new.reg
+    c.reclaim-answer.new.self (record {
       answer_is = c.reclaim-answer.ensures.answer;
       registry_is = c.reclaim-answer.ensures.reclaimed;
       sender_is = c.reclaim-answer.ensures.port;
@@ -89,12 +96,14 @@ pointed_entry-found-requires-clause-points c =
     (subst (λ os. PointsTo c.self.inside.memory_registry c.self.inside.memory c.self.inside.entries.items
     (owners_of os (segment_of c.in-Some.pointer)) c.in-Some.pointer) (sym c.deref-2.ensures.value)
     (front_leads (state_of c.self.inside) c.self.invariant.linked c.args.channel c.if-channel-self.false
-    c.in-Some.pointer c.reclaim-answer.new.reg c.reclaim-answer.new.self call c.self.invariant.ledger c.self.invariant.represents).points)
+    c.in-Some.pointer c.reclaim-answer.new.reg c.reclaim-answer.new.self call c.self.invariant.ledger
+    c.self.invariant.represents).points)
 
 pub leave_channel-kept-requires-clause-index : goal.leave_channel-kept-requires-clause-index
 leave_channel-kept-requires-clause-index c =
     let call = call_at (state_of c.self.inside) c.new.result c.args.channel c.new.ensures.value
-    c.reclaim-answer.result (Ok (Some c.in-Some.pointer)) (c.in-Ok.is ∙ ap Ok c.in-Some.is) c.reclaim-answer.new.reg c.reclaim-answer.new.self (record {
+    c.reclaim-answer.result (Ok (Some c.in-Some.pointer)) (c.in-Ok.is ∙ ap Ok c.in-Some.is) c.reclaim-answer.new.reg
+    c.reclaim-answer.new.self (record {
       answer_is = c.reclaim-answer.ensures.answer;
       registry_is = c.reclaim-answer.ensures.reclaimed;
       sender_is = c.reclaim-answer.ensures.port;
@@ -108,13 +117,15 @@ leave_channel-kept-requires-clause-index c =
     (c.pointed_entry-found.result.index ≡ p.index) × (c.pointed_entry-found.result.entry ≡ p.entry))
     c.deref.ensures.value c.pointed_entry-found.ensures.found) in
     let within = found_index (state_of c.self.inside) c.self.invariant.linked c.args.channel c.if-channel-self.false
-    c.in-Some.pointer c.reclaim-answer.new.reg c.reclaim-answer.new.self call c.pointed_entry-found.result found c.self.invariant.ledger c.self.invariant.represents in
+    c.in-Some.pointer c.reclaim-answer.new.reg c.reclaim-answer.new.self call c.pointed_entry-found.result found
+    c.self.invariant.ledger c.self.invariant.represents in
     omega (arith, c.self.inside.entries.ok.0)
 
 pub leave_channel-kept-requires-clause-transit : goal.leave_channel-kept-requires-clause-transit
 leave_channel-kept-requires-clause-transit c =
     let call = call_at (state_of c.self.inside) c.new.result c.args.channel c.new.ensures.value
-    c.reclaim-answer.result (Ok (Some c.in-Some.pointer)) (c.in-Ok.is ∙ ap Ok c.in-Some.is) c.reclaim-answer.new.reg c.reclaim-answer.new.self (record {
+    c.reclaim-answer.result (Ok (Some c.in-Some.pointer)) (c.in-Ok.is ∙ ap Ok c.in-Some.is) c.reclaim-answer.new.reg
+    c.reclaim-answer.new.self (record {
       answer_is = c.reclaim-answer.ensures.answer;
       registry_is = c.reclaim-answer.ensures.reclaimed;
       sender_is = c.reclaim-answer.ensures.port;
@@ -128,57 +139,67 @@ leave_channel-kept-requires-clause-transit c =
     (c.pointed_entry-found.result.index ≡ p.index) × (c.pointed_entry-found.result.entry ≡ p.entry))
     c.deref.ensures.value c.pointed_entry-found.ensures.found) in
     found_transit (state_of c.self.inside) c.self.invariant.linked c.args.channel c.if-channel-self.false
-    c.in-Some.pointer c.reclaim-answer.new.reg c.reclaim-answer.new.self call c.pointed_entry-found.result found c.self.invariant.ledger c.self.invariant.represents
+    c.in-Some.pointer c.reclaim-answer.new.reg c.reclaim-answer.new.self call c.pointed_entry-found.result found
+    c.self.invariant.ledger c.self.invariant.represents
 
 pub free_unless-requires-clause-out : goal.free_unless-requires-clause-out
 free_unless-requires-clause-out c =
     let call = call_at (state_of c.self.inside) c.new.result c.args.channel c.new.ensures.value
-    c.reclaim-answer.result (Ok (Some c.in-Some.pointer)) (c.in-Ok.is ∙ ap Ok c.in-Some.is) c.reclaim-answer.new.reg c.reclaim-answer.new.self (record {
+    c.reclaim-answer.result (Ok (Some c.in-Some.pointer)) (c.in-Ok.is ∙ ap Ok c.in-Some.is) c.reclaim-answer.new.reg
+    c.reclaim-answer.new.self (record {
       answer_is = c.reclaim-answer.ensures.answer;
       registry_is = c.reclaim-answer.ensures.reclaimed;
       sender_is = c.reclaim-answer.ensures.port;
     }) in
     front_out (state_of c.self.inside) c.self.invariant.linked c.args.channel c.if-channel-self.false
-    c.in-Some.pointer c.reclaim-answer.new.reg c.reclaim-answer.new.self call c.self.invariant.ledger c.self.invariant.represents
+    c.in-Some.pointer c.reclaim-answer.new.reg c.reclaim-answer.new.self call c.self.invariant.ledger
+    c.self.invariant.represents
 
 pub free_unless-requires-clause-used : goal.free_unless-requires-clause-used
 free_unless-requires-clause-used c =
     let call = call_at (state_of c.self.inside) c.new.result c.args.channel c.new.ensures.value
-    c.reclaim-answer.result (Ok (Some c.in-Some.pointer)) (c.in-Ok.is ∙ ap Ok c.in-Some.is) c.reclaim-answer.new.reg c.reclaim-answer.new.self (record {
+    c.reclaim-answer.result (Ok (Some c.in-Some.pointer)) (c.in-Ok.is ∙ ap Ok c.in-Some.is) c.reclaim-answer.new.reg
+    c.reclaim-answer.new.self (record {
       answer_is = c.reclaim-answer.ensures.answer;
       registry_is = c.reclaim-answer.ensures.reclaimed;
       sender_is = c.reclaim-answer.ensures.port;
     }) in
     front_used (state_of c.self.inside) c.self.invariant.linked c.args.channel c.if-channel-self.false
-    c.in-Some.pointer c.reclaim-answer.new.reg c.reclaim-answer.new.self call c.self.invariant.ledger c.self.invariant.represents
+    c.in-Some.pointer c.reclaim-answer.new.reg c.reclaim-answer.new.self call c.self.invariant.ledger
+    c.self.invariant.represents
 
 pub count_less-requires-clause-some : goal.count_less-requires-clause-some
 count_less-requires-clause-some c =
     let call = call_at (state_of c.self.inside) c.new.result c.args.channel c.new.ensures.value
-    c.reclaim-answer.result (Ok (Some c.in-Some.pointer)) (c.in-Ok.is ∙ ap Ok c.in-Some.is) c.reclaim-answer.new.reg c.reclaim-answer.new.self (record {
+    c.reclaim-answer.result (Ok (Some c.in-Some.pointer)) (c.in-Ok.is ∙ ap Ok c.in-Some.is) c.reclaim-answer.new.reg
+    c.reclaim-answer.new.self (record {
       answer_is = c.reclaim-answer.ensures.answer;
       registry_is = c.reclaim-answer.ensures.reclaimed;
       sender_is = c.reclaim-answer.ensures.port;
     }) in
     front_counted (state_of c.self.inside) c.self.invariant.linked c.args.channel c.if-channel-self.false
-    c.in-Some.pointer c.reclaim-answer.new.reg c.reclaim-answer.new.self call c.self.invariant.ledger c.self.invariant.represents
+    c.in-Some.pointer c.reclaim-answer.new.reg c.reclaim-answer.new.self call c.self.invariant.ledger
+    c.self.invariant.represents
 
 pub overflow_sub-self : goal.overflow_sub-self
 overflow_sub-self c =
     let call = call_at (state_of c.self.inside) c.new.result c.args.channel c.new.ensures.value
-    c.reclaim-answer.result (Ok (Some c.in-Some.pointer)) (c.in-Ok.is ∙ ap Ok c.in-Some.is) c.reclaim-answer.new.reg c.reclaim-answer.new.self (record {
+    c.reclaim-answer.result (Ok (Some c.in-Some.pointer)) (c.in-Ok.is ∙ ap Ok c.in-Some.is) c.reclaim-answer.new.reg
+    c.reclaim-answer.new.self (record {
       answer_is = c.reclaim-answer.ensures.answer;
       registry_is = c.reclaim-answer.ensures.reclaimed;
       sender_is = c.reclaim-answer.ensures.port;
     }) in
     let some = front_in_all (state_of c.self.inside) c.self.invariant.linked c.args.channel c.if-channel-self.false
-    c.in-Some.pointer c.reclaim-answer.new.reg c.reclaim-answer.new.self call c.self.invariant.ledger c.self.invariant.represents in
+    c.in-Some.pointer c.reclaim-answer.new.reg c.reclaim-answer.new.self call c.self.invariant.ledger
+    c.self.invariant.represents in
     omega arith
 
 pub invariant_of-self-2 : goal.invariant_of-self-2
 invariant_of-self-2 c =
     let call = call_at (state_of c.self.inside) c.new.result c.args.channel c.new.ensures.value
-    c.reclaim-answer.result (Ok (Some c.in-Some.pointer)) (c.in-Ok.is ∙ ap Ok c.in-Some.is) c.reclaim-answer.new.reg c.reclaim-answer.new.self (record {
+    c.reclaim-answer.result (Ok (Some c.in-Some.pointer)) (c.in-Ok.is ∙ ap Ok c.in-Some.is) c.reclaim-answer.new.reg
+    c.reclaim-answer.new.self (record {
       answer_is = c.reclaim-answer.ensures.answer;
       registry_is = c.reclaim-answer.ensures.reclaimed;
       sender_is = c.reclaim-answer.ensures.port;
@@ -212,17 +233,18 @@ invariant_of-self-2 c =
       represents = does.1;
       linked = reclaimed_linked (state_of c.self.inside) c.self.invariant.linked c.args.channel c.if-channel-self.false
           c.in-Some.pointer c.reclaim-answer.new.reg c.reclaim-answer.new.self call c.pointed_entry-found.result found
-    c.free_unless.new.reg c.free_unless.new.memory freed
-    c.leave_channel-kept.new.entries.items c.leave_channel-kept.ensures.written
-    c.count_less.new.transits.items c.count_less.ensures.counted
-    (vec_capacity c.leave_channel-kept.new.entries - vec_len c.leave_channel-kept.new.entries)
+          c.free_unless.new.reg c.free_unless.new.memory freed
+          c.leave_channel-kept.new.entries.items c.leave_channel-kept.ensures.written
+          c.count_less.new.transits.items c.count_less.ensures.counted
+          (vec_capacity c.leave_channel-kept.new.entries - vec_len c.leave_channel-kept.new.entries)
           c.self.invariant.ledger c.self.invariant.represents;
     }
 
 pub returns-clause-step : goal.returns-clause-step
 returns-clause-step c =
     let call = call_at (state_of c.self.inside) c.new.result c.args.channel c.new.ensures.value
-    c.reclaim-answer.result (Ok (Some c.in-Some.pointer)) (c.in-Ok.is ∙ ap Ok c.in-Some.is) c.reclaim-answer.new.reg c.reclaim-answer.new.self (record {
+    c.reclaim-answer.result (Ok (Some c.in-Some.pointer)) (c.in-Ok.is ∙ ap Ok c.in-Some.is) c.reclaim-answer.new.reg
+    c.reclaim-answer.new.self (record {
       answer_is = c.reclaim-answer.ensures.answer;
       registry_is = c.reclaim-answer.ensures.reclaimed;
       sender_is = c.reclaim-answer.ensures.port;

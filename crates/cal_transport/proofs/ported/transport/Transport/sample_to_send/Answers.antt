@@ -64,13 +64,15 @@ returns-then-not-is_within c =
       sample = subst (λ t. DoesAnywhere t (command.Send c.args.channel c.args.chunk)
           (Refused refusal.OutsideConnection) t) c.self.view_is
           (send_unnamable_does (state_of c.self.inside) c.args.channel c.args.chunk c.in-Some.found is
-          (not_false c.in-Some.found.entry.loaned c.if-not-found.false) (sym c.is_within.ensures.within ∙ c.if-not-is_within.true));
+          (not_false c.in-Some.found.entry.loaned c.if-not-found.false) (sym c.is_within.ensures.within ∙
+          c.if-not-is_within.true));
     }
 
 pub pointer_at-pointer-requires-clause-place : goal.pointer_at-pointer-requires-clause-place
 pointer_at-pointer-requires-clause-place c =
     let is = subst (λ es. IsFound es c.args.chunk c.in-Some.found) c.deref.ensures.value c.in-Some.ensures.found in
-    (send_place (state_of c.self.inside) c.args.channel c.args.chunk c.in-Some.found is (not_false c.in-Some.found.entry.loaned c.if-not-found.false)
+    (send_place (state_of c.self.inside) c.args.channel c.args.chunk c.in-Some.found is (not_false
+    c.in-Some.found.entry.loaned c.if-not-found.false)
     c.self.invariant.ledger c.self.invariant.represents).place
 
 pub bucket_size-size-requires-clause-active : goal.bucket_size-size-requires-clause-active
@@ -92,7 +94,8 @@ is_in_use-requires-clause-within c =
     c.bucket_size-size.ensures.size in
     subst (λ n. IsWithin (port_at c.self.inside.connection_registry c.self.inside.sender.handle) n
     c.pointer_at-pointer.result c.bucket_size-size.result) (sym c.new-sent_on.ensures.value)
-    (send_within (state_of c.self.inside) c.args.channel c.args.chunk c.in-Some.found is (not_false c.in-Some.found.entry.loaned c.if-not-found.false)
+    (send_within (state_of c.self.inside) c.args.channel c.args.chunk c.in-Some.found is (not_false
+    c.in-Some.found.entry.loaned c.if-not-found.false)
     c.self.invariant.linked c.if-channel-self.false both.0 both.1 c.pointer_at-pointer.result
     c.bucket_size-size.result c.pointer_at-pointer.ensures.pointer size
     c.self.invariant.ledger c.self.invariant.represents)
@@ -112,7 +115,8 @@ returns-then-is_in_use c =
       sample = subst (λ t. DoesAnywhere t (command.Send c.args.channel c.args.chunk)
           (Refused refusal.AlreadyInTransit) t) c.self.view_is
           (send_again_does (state_of c.self.inside) c.args.channel c.args.chunk c.in-Some.found is
-          (not_false c.in-Some.found.entry.loaned c.if-not-found.false) c.self.invariant.linked c.if-channel-self.false both.0 both.1
+          (not_false c.in-Some.found.entry.loaned c.if-not-found.false) c.self.invariant.linked
+          c.if-channel-self.false both.0 both.1
           c.pointer_at-pointer.result c.bucket_size-size.result c.pointer_at-pointer.ensures.pointer size used);
     }
 

@@ -40,7 +40,8 @@ try_send-answer-requires-clause-sendable c =
     c.in-Ok.sample.pointer c.in-Ok.sample.size) (sym c.new-channel_id.ensures.value)
     (record {
       within = send_within (state_of c.self.inside) c.args.channel c.args.chunk c.in-Ok.sample.found is.found is.loaned
-          c.self.invariant.linked is.channel is.segment is.bucket c.in-Ok.sample.pointer c.in-Ok.sample.size is.pointer is.size
+          c.self.invariant.linked is.channel is.segment is.bucket c.in-Ok.sample.pointer c.in-Ok.sample.size
+          is.pointer is.size
           c.self.invariant.ledger c.self.invariant.represents;
       unused = is.unused;
     })
@@ -50,14 +51,17 @@ invariant_of-self c =
     let is = subst (λ t. IsSample t c.args.channel c.args.chunk c.in-Ok.sample) (sym c.self.view_is)
     c.in-Ok.ensures.sample in
     let call = call_at (state_of c.self.inside) c.new-channel_id.result c.args.channel c.in-Ok.sample.pointer
-    c.in-Ok.sample.size c.new-channel_id.ensures.value c.try_send-answer.result (Err c.in-Err-answer.field-0) c.in-Err-answer.is
+    c.in-Ok.sample.size c.new-channel_id.ensures.value c.try_send-answer.result (Err c.in-Err-answer.field-0)
+    c.in-Err-answer.is
     c.try_send-answer.new.reg c.try_send-answer.new.self (record {
       answer_is = c.try_send-answer.ensures.answer;
       registry_is = c.try_send-answer.ensures.sent;
       sender_is = c.try_send-answer.ensures.port;
     }) in
-    let same = send_full_state (state_of c.self.inside) c.self.invariant.linked c.args.channel c.args.chunk c.in-Ok.sample is
-    c.in-Err-answer.field-0 c.try_send-answer.new.reg c.try_send-answer.new.self call c.self.invariant.ledger c.self.invariant.represents in
+    let same = send_full_state (state_of c.self.inside) c.self.invariant.linked c.args.channel c.args.chunk
+    c.in-Ok.sample is
+    c.in-Err-answer.field-0 c.try_send-answer.new.reg c.try_send-answer.new.self call c.self.invariant.ledger
+    c.self.invariant.represents in
     record {
       ledger = c.self.invariant.ledger;
       represents = subst (λ t. Represents t c.self.invariant.ledger) (sym same) c.self.invariant.represents;
@@ -69,14 +73,17 @@ returns-in-Err-answer-clause-step c =
     let is = subst (λ t. IsSample t c.args.channel c.args.chunk c.in-Ok.sample) (sym c.self.view_is)
     c.in-Ok.ensures.sample in
     let call = call_at (state_of c.self.inside) c.new-channel_id.result c.args.channel c.in-Ok.sample.pointer
-    c.in-Ok.sample.size c.new-channel_id.ensures.value c.try_send-answer.result (Err c.in-Err-answer.field-0) c.in-Err-answer.is
+    c.in-Ok.sample.size c.new-channel_id.ensures.value c.try_send-answer.result (Err c.in-Err-answer.field-0)
+    c.in-Err-answer.is
     c.try_send-answer.new.reg c.try_send-answer.new.self (record {
       answer_is = c.try_send-answer.ensures.answer;
       registry_is = c.try_send-answer.ensures.sent;
       sender_is = c.try_send-answer.ensures.port;
     }) in
-    let same = send_full_state (state_of c.self.inside) c.self.invariant.linked c.args.channel c.args.chunk c.in-Ok.sample is
-    c.in-Err-answer.field-0 c.try_send-answer.new.reg c.try_send-answer.new.self call c.self.invariant.ledger c.self.invariant.represents in
+    let same = send_full_state (state_of c.self.inside) c.self.invariant.linked c.args.channel c.args.chunk
+    c.in-Ok.sample is
+    c.in-Err-answer.field-0 c.try_send-answer.new.reg c.try_send-answer.new.self call c.self.invariant.ledger
+    c.self.invariant.represents in
     subst (λ t. DoesAnywhere t (command.Send c.args.channel c.args.chunk) (Refused refusal.ReceiveBufferFull)
     (record (state_of c.self.inside) {
       connection_registry = c.try_send-answer.new.reg;
@@ -91,26 +98,30 @@ pub enter_channel-requires-clause-index : goal.enter_channel-requires-clause-ind
 enter_channel-requires-clause-index c =
     let is = subst (λ t. IsSample t c.args.channel c.args.chunk c.in-Ok.sample) (sym c.self.view_is)
     c.in-Ok.ensures.sample in
-    let within = slice_get_within c.self.inside.entries.items c.in-Ok.sample.found.index c.in-Ok.sample.found.entry is.found.0 in
+    let within = slice_get_within c.self.inside.entries.items c.in-Ok.sample.found.index c.in-Ok.sample.found.entry
+    is.found.0 in
     omega (arith, c.self.inside.entries.ok.0)
 
 pub enter_channel-requires-clause-small : goal.enter_channel-requires-clause-small
 enter_channel-requires-clause-small c =
     let is = subst (λ t. IsSample t c.args.channel c.args.chunk c.in-Ok.sample) (sym c.self.view_is)
     c.in-Ok.ensures.sample in
-    entry_counted (state_of c.self.inside) c.self.invariant.linked c.args.channel c.args.chunk c.in-Ok.sample is c.self.invariant.ledger c.self.invariant.represents
+    entry_counted (state_of c.self.inside) c.self.invariant.linked c.args.channel c.args.chunk c.in-Ok.sample is
+    c.self.invariant.ledger c.self.invariant.represents
 
 pub count_more-requires-clause-small : goal.count_more-requires-clause-small
 count_more-requires-clause-small c =
     let is = subst (λ t. IsSample t c.args.channel c.args.chunk c.in-Ok.sample) (sym c.self.view_is)
     c.in-Ok.ensures.sample in
-    channel_counted (state_of c.self.inside) c.self.invariant.linked c.args.channel c.args.chunk c.in-Ok.sample is c.self.invariant.ledger c.self.invariant.represents
+    channel_counted (state_of c.self.inside) c.self.invariant.linked c.args.channel c.args.chunk c.in-Ok.sample is
+    c.self.invariant.ledger c.self.invariant.represents
 
 pub overflow_add-self : goal.overflow_add-self
 overflow_add-self c =
     let is = subst (λ t. IsSample t c.args.channel c.args.chunk c.in-Ok.sample) (sym c.self.view_is)
     c.in-Ok.ensures.sample in
-    let few = all_counted (state_of c.self.inside) c.self.invariant.linked c.args.channel c.args.chunk c.in-Ok.sample is c.self.invariant.ledger c.self.invariant.represents in
+    let few = all_counted (state_of c.self.inside) c.self.invariant.linked c.args.channel c.args.chunk c.in-Ok.sample
+    is c.self.invariant.ledger c.self.invariant.represents in
     omega arith
 
 pub invariant_of-self-in-None : goal.invariant_of-self-in-None
@@ -118,23 +129,29 @@ invariant_of-self-in-None c =
     let is = subst (λ t. IsSample t c.args.channel c.args.chunk c.in-Ok.sample) (sym c.self.view_is)
     c.in-Ok.ensures.sample in
     let call = call_at (state_of c.self.inside) c.new-channel_id.result c.args.channel c.in-Ok.sample.pointer
-    c.in-Ok.sample.size c.new-channel_id.ensures.value c.try_send-answer.result (Ok None) (c.in-Ok-answer.is ∙ ap Ok c.in-None.is)
+    c.in-Ok.sample.size c.new-channel_id.ensures.value c.try_send-answer.result (Ok None) (c.in-Ok-answer.is ∙ ap Ok
+    c.in-None.is)
     c.try_send-answer.new.reg c.try_send-answer.new.self (record {
       answer_is = c.try_send-answer.ensures.answer;
       registry_is = c.try_send-answer.ensures.sent;
       sender_is = c.try_send-answer.ensures.port;
     }) in
     let does = sent_does (state_of c.self.inside) c.self.invariant.linked c.args.channel c.args.chunk c.in-Ok.sample is
-    c.try_send-answer.new.reg c.try_send-answer.new.self call c.enter_channel.new.entries.items c.enter_channel.ensures.written
+    c.try_send-answer.new.reg c.try_send-answer.new.self call c.enter_channel.new.entries.items
+    c.enter_channel.ensures.written
     c.count_more.new.transits.items c.count_more.ensures.counted
-    (vec_capacity c.enter_channel.new.entries - vec_len c.enter_channel.new.entries) 0 c.self.invariant.ledger c.self.invariant.represents in
+    (vec_capacity c.enter_channel.new.entries - vec_len c.enter_channel.new.entries) 0 c.self.invariant.ledger
+    c.self.invariant.represents in
     record {
       ledger = after_step c.self.invariant.ledger 0 (command.Send c.args.channel c.args.chunk) (Sent None);
       represents = does.1;
-      linked = sent_linked (state_of c.self.inside) c.self.invariant.linked c.args.channel c.args.chunk c.in-Ok.sample is
-          c.try_send-answer.new.reg c.try_send-answer.new.self call c.enter_channel.new.entries.items c.enter_channel.ensures.written
-    c.count_more.new.transits.items c.count_more.ensures.counted
-    (vec_capacity c.enter_channel.new.entries - vec_len c.enter_channel.new.entries) c.self.invariant.ledger c.self.invariant.represents;
+      linked = sent_linked (state_of c.self.inside) c.self.invariant.linked c.args.channel c.args.chunk c.in-Ok.sample
+          is
+          c.try_send-answer.new.reg c.try_send-answer.new.self call c.enter_channel.new.entries.items
+          c.enter_channel.ensures.written
+          c.count_more.new.transits.items c.count_more.ensures.counted
+          (vec_capacity c.enter_channel.new.entries - vec_len c.enter_channel.new.entries) c.self.invariant.ledger
+          c.self.invariant.represents;
     }
 
 pub returns-in-None-clause-step : goal.returns-in-None-clause-step
@@ -142,7 +159,8 @@ returns-in-None-clause-step c =
     let is = subst (λ t. IsSample t c.args.channel c.args.chunk c.in-Ok.sample) (sym c.self.view_is)
     c.in-Ok.ensures.sample in
     let call = call_at (state_of c.self.inside) c.new-channel_id.result c.args.channel c.in-Ok.sample.pointer
-    c.in-Ok.sample.size c.new-channel_id.ensures.value c.try_send-answer.result (Ok None) (c.in-Ok-answer.is ∙ ap Ok c.in-None.is)
+    c.in-Ok.sample.size c.new-channel_id.ensures.value c.try_send-answer.result (Ok None) (c.in-Ok-answer.is ∙ ap Ok
+    c.in-None.is)
     c.try_send-answer.new.reg c.try_send-answer.new.self (record {
       answer_is = c.try_send-answer.ensures.answer;
       registry_is = c.try_send-answer.ensures.sent;
@@ -158,7 +176,8 @@ returns-in-None-clause-step c =
       spare = vec_capacity c.enter_channel.new.entries - vec_len c.enter_channel.new.entries;
     })) c.self.view_is
     (sent_does (state_of c.self.inside) c.self.invariant.linked c.args.channel c.args.chunk c.in-Ok.sample is
-    c.try_send-answer.new.reg c.try_send-answer.new.self call c.enter_channel.new.entries.items c.enter_channel.ensures.written
+    c.try_send-answer.new.reg c.try_send-answer.new.self call c.enter_channel.new.entries.items
+    c.enter_channel.ensures.written
     c.count_more.new.transits.items c.count_more.ensures.counted
     (vec_capacity c.enter_channel.new.entries - vec_len c.enter_channel.new.entries))
 
@@ -167,7 +186,8 @@ pointed_entry-leaving-requires-clause-points c =
     let is = subst (λ t. IsSample t c.args.channel c.args.chunk c.in-Ok.sample) (sym c.self.view_is)
     c.in-Ok.ensures.sample in
     let call = call_at (state_of c.self.inside) c.new-channel_id.result c.args.channel c.in-Ok.sample.pointer
-    c.in-Ok.sample.size c.new-channel_id.ensures.value c.try_send-answer.result (Ok (Some c.in-Some.oldest)) (c.in-Ok-answer.is ∙ ap Ok c.in-Some.is)
+    c.in-Ok.sample.size c.new-channel_id.ensures.value c.try_send-answer.result (Ok (Some c.in-Some.oldest))
+    (c.in-Ok-answer.is ∙ ap Ok c.in-Some.is)
     c.try_send-answer.new.reg c.try_send-answer.new.self (record {
       answer_is = c.try_send-answer.ensures.answer;
       registry_is = c.try_send-answer.ensures.sent;
@@ -178,27 +198,31 @@ pointed_entry-leaving-requires-clause-points c =
     (subst (λ os. PointsTo c.self.inside.memory_registry c.self.inside.memory c.self.inside.entries.items
     (owners_of os (segment_of c.in-Some.oldest)) c.in-Some.oldest) (sym c.deref-2.ensures.value)
     (oldest_leads (state_of c.self.inside) c.self.invariant.linked c.args.channel c.args.chunk c.in-Ok.sample is
-    c.in-Some.oldest c.try_send-answer.new.reg c.try_send-answer.new.self call c.self.invariant.ledger c.self.invariant.represents).points)
+    c.in-Some.oldest c.try_send-answer.new.reg c.try_send-answer.new.self call c.self.invariant.ledger
+    c.self.invariant.represents).points)
 
 pub enter_channel-requires-2-clause-index : goal.enter_channel-requires-2-clause-index
 enter_channel-requires-2-clause-index c =
     let is = subst (λ t. IsSample t c.args.channel c.args.chunk c.in-Ok.sample) (sym c.self.view_is)
     c.in-Ok.ensures.sample in
-    let within = slice_get_within c.self.inside.entries.items c.in-Ok.sample.found.index c.in-Ok.sample.found.entry is.found.0 in
+    let within = slice_get_within c.self.inside.entries.items c.in-Ok.sample.found.index c.in-Ok.sample.found.entry
+    is.found.0 in
     omega (arith, c.self.inside.entries.ok.0)
 
 pub enter_channel-requires-2-clause-small : goal.enter_channel-requires-2-clause-small
 enter_channel-requires-2-clause-small c =
     let is = subst (λ t. IsSample t c.args.channel c.args.chunk c.in-Ok.sample) (sym c.self.view_is)
     c.in-Ok.ensures.sample in
-    entry_counted (state_of c.self.inside) c.self.invariant.linked c.args.channel c.args.chunk c.in-Ok.sample is c.self.invariant.ledger c.self.invariant.represents
+    entry_counted (state_of c.self.inside) c.self.invariant.linked c.args.channel c.args.chunk c.in-Ok.sample is
+    c.self.invariant.ledger c.self.invariant.represents
 
 pub leave_channel-kept-requires-clause-index : goal.leave_channel-kept-requires-clause-index
 leave_channel-kept-requires-clause-index c =
     let is = subst (λ t. IsSample t c.args.channel c.args.chunk c.in-Ok.sample) (sym c.self.view_is)
     c.in-Ok.ensures.sample in
     let call = call_at (state_of c.self.inside) c.new-channel_id.result c.args.channel c.in-Ok.sample.pointer
-    c.in-Ok.sample.size c.new-channel_id.ensures.value c.try_send-answer.result (Ok (Some c.in-Some.oldest)) (c.in-Ok-answer.is ∙ ap Ok c.in-Some.is)
+    c.in-Ok.sample.size c.new-channel_id.ensures.value c.try_send-answer.result (Ok (Some c.in-Some.oldest))
+    (c.in-Ok-answer.is ∙ ap Ok c.in-Some.is)
     c.try_send-answer.new.reg c.try_send-answer.new.self (record {
       answer_is = c.try_send-answer.ensures.answer;
       registry_is = c.try_send-answer.ensures.sent;
@@ -212,9 +236,12 @@ leave_channel-kept-requires-clause-index c =
     (owners_of c.deref-2.result.now (segment_of c.in-Some.oldest)) c.in-Some.oldest) →
     (c.pointed_entry-leaving.result.index ≡ p.index) × (c.pointed_entry-leaving.result.entry ≡ p.entry))
     c.deref.ensures.value c.pointed_entry-leaving.ensures.found) in
-    let within = leaving_index (state_of c.self.inside) c.self.invariant.linked c.args.channel c.args.chunk c.in-Ok.sample is
-    c.in-Some.oldest c.try_send-answer.new.reg c.try_send-answer.new.self call c.pointed_entry-leaving.result found c.self.invariant.ledger c.self.invariant.represents in
-    let long = ap length c.enter_channel-2.ensures.written ∙ length-set c.self.inside.entries.items c.in-Ok.sample.found.index _ in
+    let within = leaving_index (state_of c.self.inside) c.self.invariant.linked c.args.channel c.args.chunk
+    c.in-Ok.sample is
+    c.in-Some.oldest c.try_send-answer.new.reg c.try_send-answer.new.self call c.pointed_entry-leaving.result found
+    c.self.invariant.ledger c.self.invariant.represents in
+    let long = ap length c.enter_channel-2.ensures.written ∙ length-set c.self.inside.entries.items
+    c.in-Ok.sample.found.index _ in
     omega (arith, c.enter_channel-2.new.entries.ok.0)
 
 pub leave_channel-kept-requires-clause-transit : goal.leave_channel-kept-requires-clause-transit
@@ -222,7 +249,8 @@ leave_channel-kept-requires-clause-transit c =
     let is = subst (λ t. IsSample t c.args.channel c.args.chunk c.in-Ok.sample) (sym c.self.view_is)
     c.in-Ok.ensures.sample in
     let call = call_at (state_of c.self.inside) c.new-channel_id.result c.args.channel c.in-Ok.sample.pointer
-    c.in-Ok.sample.size c.new-channel_id.ensures.value c.try_send-answer.result (Ok (Some c.in-Some.oldest)) (c.in-Ok-answer.is ∙ ap Ok c.in-Some.is)
+    c.in-Ok.sample.size c.new-channel_id.ensures.value c.try_send-answer.result (Ok (Some c.in-Some.oldest))
+    (c.in-Ok-answer.is ∙ ap Ok c.in-Some.is)
     c.try_send-answer.new.reg c.try_send-answer.new.self (record {
       answer_is = c.try_send-answer.ensures.answer;
       registry_is = c.try_send-answer.ensures.sent;
@@ -237,42 +265,48 @@ leave_channel-kept-requires-clause-transit c =
     (c.pointed_entry-leaving.result.index ≡ p.index) × (c.pointed_entry-leaving.result.entry ≡ p.entry))
     c.deref.ensures.value c.pointed_entry-leaving.ensures.found) in
     leaving_transit (state_of c.self.inside) c.self.invariant.linked c.args.channel c.args.chunk c.in-Ok.sample is
-    c.in-Some.oldest c.try_send-answer.new.reg c.try_send-answer.new.self call c.pointed_entry-leaving.result found c.self.invariant.ledger c.self.invariant.represents
+    c.in-Some.oldest c.try_send-answer.new.reg c.try_send-answer.new.self call c.pointed_entry-leaving.result found
+    c.self.invariant.ledger c.self.invariant.represents
 
 pub free_unless-requires-clause-out : goal.free_unless-requires-clause-out
 free_unless-requires-clause-out c =
     let is = subst (λ t. IsSample t c.args.channel c.args.chunk c.in-Ok.sample) (sym c.self.view_is)
     c.in-Ok.ensures.sample in
     let call = call_at (state_of c.self.inside) c.new-channel_id.result c.args.channel c.in-Ok.sample.pointer
-    c.in-Ok.sample.size c.new-channel_id.ensures.value c.try_send-answer.result (Ok (Some c.in-Some.oldest)) (c.in-Ok-answer.is ∙ ap Ok c.in-Some.is)
+    c.in-Ok.sample.size c.new-channel_id.ensures.value c.try_send-answer.result (Ok (Some c.in-Some.oldest))
+    (c.in-Ok-answer.is ∙ ap Ok c.in-Some.is)
     c.try_send-answer.new.reg c.try_send-answer.new.self (record {
       answer_is = c.try_send-answer.ensures.answer;
       registry_is = c.try_send-answer.ensures.sent;
       sender_is = c.try_send-answer.ensures.port;
     }) in
     oldest_out (state_of c.self.inside) c.self.invariant.linked c.args.channel c.args.chunk c.in-Ok.sample is
-    c.in-Some.oldest c.try_send-answer.new.reg c.try_send-answer.new.self call c.self.invariant.ledger c.self.invariant.represents
+    c.in-Some.oldest c.try_send-answer.new.reg c.try_send-answer.new.self call c.self.invariant.ledger
+    c.self.invariant.represents
 
 pub free_unless-requires-clause-used : goal.free_unless-requires-clause-used
 free_unless-requires-clause-used c =
     let is = subst (λ t. IsSample t c.args.channel c.args.chunk c.in-Ok.sample) (sym c.self.view_is)
     c.in-Ok.ensures.sample in
     let call = call_at (state_of c.self.inside) c.new-channel_id.result c.args.channel c.in-Ok.sample.pointer
-    c.in-Ok.sample.size c.new-channel_id.ensures.value c.try_send-answer.result (Ok (Some c.in-Some.oldest)) (c.in-Ok-answer.is ∙ ap Ok c.in-Some.is)
+    c.in-Ok.sample.size c.new-channel_id.ensures.value c.try_send-answer.result (Ok (Some c.in-Some.oldest))
+    (c.in-Ok-answer.is ∙ ap Ok c.in-Some.is)
     c.try_send-answer.new.reg c.try_send-answer.new.self (record {
       answer_is = c.try_send-answer.ensures.answer;
       registry_is = c.try_send-answer.ensures.sent;
       sender_is = c.try_send-answer.ensures.port;
     }) in
     oldest_used (state_of c.self.inside) c.self.invariant.linked c.args.channel c.args.chunk c.in-Ok.sample is
-    c.in-Some.oldest c.try_send-answer.new.reg c.try_send-answer.new.self call c.self.invariant.ledger c.self.invariant.represents
+    c.in-Some.oldest c.try_send-answer.new.reg c.try_send-answer.new.self call c.self.invariant.ledger
+    c.self.invariant.represents
 
 pub invariant_of-self-2 : goal.invariant_of-self-2
 invariant_of-self-2 c =
     let is = subst (λ t. IsSample t c.args.channel c.args.chunk c.in-Ok.sample) (sym c.self.view_is)
     c.in-Ok.ensures.sample in
     let call = call_at (state_of c.self.inside) c.new-channel_id.result c.args.channel c.in-Ok.sample.pointer
-    c.in-Ok.sample.size c.new-channel_id.ensures.value c.try_send-answer.result (Ok (Some c.in-Some.oldest)) (c.in-Ok-answer.is ∙ ap Ok c.in-Some.is)
+    c.in-Ok.sample.size c.new-channel_id.ensures.value c.try_send-answer.result (Ok (Some c.in-Some.oldest))
+    (c.in-Ok-answer.is ∙ ap Ok c.in-Some.is)
     c.try_send-answer.new.reg c.try_send-answer.new.self (record {
       answer_is = c.try_send-answer.ensures.answer;
       registry_is = c.try_send-answer.ensures.sent;
@@ -304,16 +338,18 @@ invariant_of-self-2 c =
     record {
       ledger = after_step c.self.invariant.ledger 0 (command.Send c.args.channel c.args.chunk)
           (Sent (Some (record {
-        chunk = c.pointed_entry-leaving.result.entry.name;
-        segment = segment_of c.in-Some.oldest;
-        place = offset_of c.in-Some.oldest;
-      })));
+            chunk = c.pointed_entry-leaving.result.entry.name;
+            segment = segment_of c.in-Some.oldest;
+            place = offset_of c.in-Some.oldest;
+          })));
       represents = does.1;
-      linked = over_linked (state_of c.self.inside) c.self.invariant.linked c.args.channel c.args.chunk c.in-Ok.sample is
-          c.in-Some.oldest c.try_send-answer.new.reg c.try_send-answer.new.self call c.pointed_entry-leaving.result found
-    c.free_unless.new.reg c.free_unless.new.memory freed
-    c.leave_channel-kept.new.entries.items written
-    (vec_capacity c.leave_channel-kept.new.entries - vec_len c.leave_channel-kept.new.entries)
+      linked = over_linked (state_of c.self.inside) c.self.invariant.linked c.args.channel c.args.chunk c.in-Ok.sample
+          is
+          c.in-Some.oldest c.try_send-answer.new.reg c.try_send-answer.new.self call c.pointed_entry-leaving.result
+          found
+          c.free_unless.new.reg c.free_unless.new.memory freed
+          c.leave_channel-kept.new.entries.items written
+          (vec_capacity c.leave_channel-kept.new.entries - vec_len c.leave_channel-kept.new.entries)
           c.self.invariant.ledger c.self.invariant.represents;
     }
 
@@ -322,7 +358,8 @@ returns-clause-step c =
     let is = subst (λ t. IsSample t c.args.channel c.args.chunk c.in-Ok.sample) (sym c.self.view_is)
     c.in-Ok.ensures.sample in
     let call = call_at (state_of c.self.inside) c.new-channel_id.result c.args.channel c.in-Ok.sample.pointer
-    c.in-Ok.sample.size c.new-channel_id.ensures.value c.try_send-answer.result (Ok (Some c.in-Some.oldest)) (c.in-Ok-answer.is ∙ ap Ok c.in-Some.is)
+    c.in-Ok.sample.size c.new-channel_id.ensures.value c.try_send-answer.result (Ok (Some c.in-Some.oldest))
+    (c.in-Ok-answer.is ∙ ap Ok c.in-Some.is)
     c.try_send-answer.new.reg c.try_send-answer.new.self (record {
       answer_is = c.try_send-answer.ensures.answer;
       registry_is = c.try_send-answer.ensures.sent;
@@ -359,7 +396,8 @@ returns-clause-step c =
       entries = c.leave_channel-kept.new.entries.items;
       spare = vec_capacity c.leave_channel-kept.new.entries - vec_len c.leave_channel-kept.new.entries;
     })) c.self.view_is
-    (subst (λ (s : Slot). DoesAnywhere (state_of c.self.inside) (command.Send c.args.channel c.args.chunk) (Sent (Some s))
+    (subst (λ (s : Slot). DoesAnywhere (state_of c.self.inside) (command.Send c.args.channel c.args.chunk) (Sent (Some
+    s))
     (record (state_of c.self.inside) {
       memory_registry = c.free_unless.new.reg;
       memory = c.free_unless.new.memory;
