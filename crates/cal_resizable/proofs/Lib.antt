@@ -2,6 +2,7 @@ mod AllocationLemmas
 mod AloneLemmas
 mod ChunkLemmas
 mod ClosingLemmas
+mod CountLemmas
 mod CreationLemmas
 pub mod CutLemmas
 mod FinishedLemmas
@@ -9,6 +10,7 @@ mod FullLemmas
 mod GrowthLemmas
 mod GuestLemmas
 mod KeepingLemmas
+mod KeptBytesLemmas
 mod LeavingLemmas
 mod ManagementLemmas
 mod MemoryLemmas
@@ -18,6 +20,7 @@ mod SharingLemmas
 mod SlotLemmas
 mod StayingLemmas
 mod StayingTogetherLemmas
+mod StepLemmas
 mod TogetherLemmas
 mod ViewCallLemmas
 mod ViewLawLemmas

@@ -1,5 +1,5 @@
 -- Which chunks of a growing memory stay out.
-use Rattle.std.proofs.Common.{◌≡◌, ◌≢◌, ℕ, zero, suc, ◌+◌, ◌<◌, ◌≤◌, ◌==◌, Bool, true, false, if◌then◌else◌, Some, None, List, [], ◌∷◌, refl, sym, ap, ◌∙◌, subst, inl, inr, arith, lit<, ne_eqb, eq-eqb, eqb-true}
+use Rattle.std.proofs.Common.{◌≡◌, ◌≢◌, ℕ, zero, suc, ◌+◌, ◌<◌, ◌≤◌, ◌==◌, Some, List, [], ◌∷◌, refl, sym, ap, ◌∙◌, subst, inl, inr, arith, lit<, ne_eqb, eq-eqb}
 use Rattle.std.specs.List.{AllByRecursion, slice_get}
 use Rattle.std.proofs.lemmas.Bool.{cases_eq}
 use Rattle.std.proofs.lemmas.Option.{none-some, same_Some}
@@ -12,11 +12,11 @@ use Rattle.cal_shm.specs.Calls.{IsInPayload}
 use Rattle.cal_shm.specs.Segment.{Segment, with_allocator}
 use Rattle.cal_resizable.specs.Chunks.{Chunk, AreDisjoint, NoneOverlap, one_where, number_within, without_chunk, value_in, segment_value, GrowsTo, GivesChunk, ReturnsChunk, IsOut, AreOut, AddsSized, RemovesChunk}
 use Rattle.cal_resizable.specs.Memory.{MemoryState}
-use Rattle.cal_resizable.specs.Slots.{Slots, segment_at, count_in, count_at, without_unused, without_segment}
+use Rattle.cal_resizable.specs.Slots.{Slots, segment_at, count_in, count_at, without_unused}
 use Rattle.cal_resizable.proofs.ChunkLemmas.{offset_back}
+use Rattle.cal_resizable.proofs.CountLemmas.{count-without_unused, counted-without_unused}
 use Rattle.cal_resizable.proofs.KeepingLemmas.{some_counted}
 use Rattle.cal_resizable.proofs.MemoryLemmas.{is_some-from}
-use Rattle.cal_resizable.proofs.SlotLemmas.{segment_at-set-other}
 
 -- ---- lists of chunks
 
@@ -109,44 +109,6 @@ from_segment : (pointer size byte : ℕ) → IsInChunk (pointer_offset (offset_o
     IsInChunk pointer size byte
 from_segment pointer size byte inside =
     subst (λ offset. (offset ≤ byte) × (byte < offset + size)) (offset_back (offset_of pointer) 0 (lit< tt)) inside
-
--- ---- slots without an unused segment
-
-set_none : (slots : Slots) (number : ℕ) → segment_at (without_segment slots number) number ≡ None
-set_none [] number = refl
-set_none (slot ∷ slots) zero = refl
-set_none (slot ∷ slots) (suc number) = set_none slots number
-
-module _ (slots : Slots) (number : ℕ) where
-  no_count : (n : ℕ) → n ≡ number → (count_at slots number == 0) ≡ true → count_at slots n ≡ 0
-  no_count n same none = ap (count_at slots) same ∙ eqb-true (count_at slots number) 0 none
-
-  -- each segment is as often counted as before
-  pub count-without_unused : (n : ℕ) → count_at (without_unused slots number) n ≡ count_at slots n
-  count-without_unused n = by_test (count_at slots number == 0) refl
-    where
-      by_test : (test : Bool) → (count_at slots number == 0) ≡ test →
-          count_at (if test then without_segment slots number else slots) n ≡ count_at slots n
-      by_test true none = elim (cases_eq n number) [
-        | inl same ↦
-            ap (count_at (without_segment slots number)) same ∙ ap count_in (set_none slots number)
-            ∙ sym (no_count n same none)
-        | inr apart ↦ ap count_in (segment_at-set-other slots number None n apart)
-      ]
-      by_test false some = refl
-
-  -- and one that is counted is still held
-  pub counted-without_unused : (n : ℕ) → 0 < count_at slots n →
-      segment_at (without_unused slots number) n ≡ segment_at slots n
-  counted-without_unused n counted = by_test (count_at slots number == 0) refl
-    where
-      by_test : (test : Bool) → (count_at slots number == 0) ≡ test →
-          segment_at (if test then without_segment slots number else slots) n ≡ segment_at slots n
-      by_test true none = elim (cases_eq n number) [
-        | inl same ↦ absurd (omega (arith, counted, no_count n same none))
-        | inr apart ↦ segment_at-set-other slots number None n apart
-      ]
-      by_test false some = refl
 
 -- ---- chunks that stay out
 

@@ -65,19 +65,10 @@ HadSegments before after =
     (number : ℕ) (one : HeldSegment) → segment_at after.slots number ≡ Some one → number ≤ before.current →
     WasHeld before.slots number one
 
-module _ {T : Type 0} (old new : Contents T) (before after : MemoryState) (view : View)
-    (both : AreTogether old before view) (own : KeepsOwn old before new after)
-    (spares : SparesHandles old new before.slots after.slots) where
+-- an entry that the memory has too is held twice
+module _ {T : Type 0} (old : Contents T) (before : MemoryState) (view : View) (both : AreTogether old before view) where
   paths : HasPaths view
   paths = HasPaths-view view both.view_sound
-
-  still_there : (handle : Handle) → Has old handle → (IsHeldId before.slots handle.id → Holds old 2 handle) →
-      Has new handle
-  still_there handle has two = elim (decide_held before.slots handle.id) [
-    | inl held ↦ (spares.sharers 1 handle (omega arith) (omega arith) (two held)).0
-    | inr not_held ↦
-        let leaves = spares.others handle (λ held. absurd (not_held held)) in leaves.has has
-  ]
 
   view_management : IsHeldId before.slots view.management.id → Holds old 2 view.management
   view_management held_id =
@@ -92,7 +83,7 @@ module _ {T : Type 0} (old new : Contents T) (before after : MemoryState) (view 
       (has_memory.of_segments held_id.number held_id.held held_id.there) has_view.of_management held_id.same)
       ∙ active.path ∙ sym (same_path before view both.name both.settings held_id.number)))
 
-  view_segment : (number : ℕ) (other : HeldSegment) → segment_at view.slots number ≡ Some other →
+  pub view_segment : (number : ℕ) (other : HeldSegment) → segment_at view.slots number ≡ Some other →
       IsHeldId before.slots other.handle.id → Holds old 2 other.handle
   view_segment number other at held_id =
       let has_view = both.has_view in
@@ -103,11 +94,23 @@ module _ {T : Type 0} (old new : Contents T) (before after : MemoryState) (view 
       let shared = both.share number held_id.held other (ap (segment_at before.slots) (sym is) ∙ held_id.there) at in
       (has_view.of_segments number other at, subst (λ i. HasHolders old 2 i) held_id.same shared.1.1)
 
+module _ {T : Type 0} (old new : Contents T) (before after : MemoryState) (view : View)
+    (both : AreTogether old before view) (own : KeepsOwn old before new after)
+    (spares : SparesHandles old new before.slots after.slots) where
+  still_there : (handle : Handle) → Has old handle → (IsHeldId before.slots handle.id → Holds old 2 handle) →
+      Has new handle
+  still_there handle has two = elim (decide_held before.slots handle.id) [
+    | inl held ↦ (spares.sharers 1 handle (omega arith) (omega arith) (two held)).0
+    | inr not_held ↦
+        let leaves = spares.others handle (λ held. absurd (not_held held)) in leaves.has has
+  ]
+
   still_viewed : HasView new view
   still_viewed = let has = both.has_view in record {
-    of_management = still_there view.management has.of_management view_management;
+    of_management = still_there view.management has.of_management (view_management old before view both);
     of_segments = λ number other at.
-        still_there other.handle (has.of_segments number other at) (view_segment number other at);
+        still_there other.handle (has.of_segments number other at)
+        (view_segment old before view both number other at);
   }
 
   still_shared : HadSegments before after → ShareSegments new after.slots view.slots

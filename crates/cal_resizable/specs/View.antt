@@ -1,7 +1,10 @@
 -- A view of a growing memory, and what its calls make of it and of the registry.
-use Rattle.std.specs.Prelude.{◌≡◌, ℕ, Bool, Option, Some, None, IsSome, is_some, false, List, ◌++◌, length, codes, if◌then◌else◌}
+use Rattle.std.specs.Prelude.{◌≡◌, ℕ, Bool, Option, Some, None, IsSome, is_some, false, List, ◌+◌, ◌++◌, length, codes, slice_range, if◌then◌else◌}
+use Rattle.std.specs.Option.{option_map}
+use Rattle.cal_alloc.specs.PointerOffset.{offset_of, segment_of}
 use Rattle.cal_names.specs.ConceptSettings.{ConceptSettings, file_path_for}
 use Rattle.cal_names.specs.FileName.{IsFileName}
+use Rattle.cal_resizable.specs.Chunks.{segment_value}
 use Rattle.cal_resizable.specs.SegmentNames.{management_segment_name, number_end}
 use Rattle.cal_resizable.specs.Slots.{Handle, Slots, EachHeld, EachHandle, SparesHandles, empty_slots, segment_at, with_more, with_less, with_segment, without_unused, after_retiring}
 use Rattle.cal_shm.specs.Plan.{SegmentPlan, path_of, default_options}
@@ -153,3 +156,11 @@ module _ {A : Type 0} where
   opening_refusal checks_version contents plan =
       if is_some (management_segment_name plan.name) then open_refusal checks_version contents (management_plan plan)
       else Some open_error.PathTooLong
+
+  -- that many bytes from a pointer on, as a view reads them: in the segment that it has mapped under the pointer's
+  -- number, if it has one
+  abbrev pub mapped_bytes : Contents (Segment A) → View → ℕ → ℕ → Option (List ℕ)
+  mapped_bytes contents view pointer count =
+      option_map (λ (segment : Segment A).
+      slice_range segment.payload (offset_of pointer) (offset_of pointer + count))
+      (segment_value contents view.slots (segment_of pointer))

@@ -202,7 +202,7 @@ impl<A: ShmAllocator, Shm: SharedMemory<A>> DynamicMemory<A, Shm> {
                 offset.set_segment_id(SegmentId::new(current));
                 Ok(ShmPointer { offset })
             }
-            Err(error) => Err(error),
+            Err(refusal) => Err(refusal),
         }
     }
 

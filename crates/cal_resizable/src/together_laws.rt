@@ -14,7 +14,7 @@ ghost use Rattle.cal_resizable.specs.Growth.{Allocates, TakesBack};
 ghost use Rattle.cal_resizable.specs.Memory.{MemoryState, KeepsOwn};
 ghost use Rattle.cal_resizable.specs.Slots.{SparesHandles, segment_at, count_at};
 ghost use Rattle.cal_resizable.specs.Together.{AllFinished, NoneLater, IsAlone, AreTogether};
-ghost use Rattle.cal_resizable.specs.View.{View, ViewPlan, management_plan, new_view, opening_refusal, segment_path, view_after_arrival, registry_after_arrival, unregistering, registry_after_return, arrival_refusal};
+ghost use Rattle.cal_resizable.specs.View.{View, ViewPlan, management_plan, new_view, opening_refusal, segment_path, view_after_arrival, registry_after_arrival, unregistering, registry_after_return, arrival_refusal, mapped_bytes};
 
 use cal_alloc::ShmAllocator;
 
@@ -93,4 +93,18 @@ pub fn a_memory_stays_with_its_view<A: ShmAllocator>()
     ensures written { (contents : Contents (Segment A)) (memory : MemoryState) (view : View) (id offset : ℕ)
         (written : List ℕ) → AreTogether contents memory view →
         AreTogether (with_written with_bytes contents id offset written) memory view }
+{}
+
+/// A view reads the same bytes after each of the memory's calls, in every segment that it has mapped: an allocation and
+/// a return change no byte, and a segment that the memory gives up meanwhile stays while the view holds it.
+pub fn a_view_keeps_its_bytes<A: ShmAllocator>()
+    ensures allocated { (old new : Contents (Segment A)) (before after : MemoryState) (view : View)
+        (layout : SizeAndAlignment) (pointer read count : ℕ) →
+        Allocates A.ShmAllocator.own old before layout pointer new after → AreTogether old before view →
+        mapped_bytes new view read count ≡ mapped_bytes old view read count }
+    ensures returned { (old new : Contents (Segment A)) (before after : MemoryState) (view : View)
+        (pointer read count : ℕ) →
+        TakesBack (λ was is. A.Deallocates was (pointer_offset (offset_of pointer) 0) is) old before
+        (segment_of pointer) new after → AreTogether old before view →
+        mapped_bytes new view read count ≡ mapped_bytes old view read count }
 {}

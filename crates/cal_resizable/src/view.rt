@@ -15,7 +15,7 @@ ghost use Rattle.cal_names.specs.ConceptSettings.{file_path_for};
 ghost use Rattle.cal_names.specs.FileName.{IsFileName};
 ghost use Rattle.cal_resizable.specs.Closing.{held_handles, AreElsewhere, after_closing, LeavesAllSharers};
 ghost use Rattle.cal_resizable.specs.Slots.{empty_slots, Handle, HeldSegment, AreApart, IsSpared, LeavesHandle, SparesHandles, segment_at, number_held};
-ghost use Rattle.cal_resizable.specs.View.{View, IsView, HasView, management_name, new_view, segment_plan, segment_path, mapping, after_mapping, registering, SparesOthers, without_unused_of, after_retiring_of, leaving_of, unregistering, view_after_arrival, registry_after_arrival, registry_after_return, arrival_refusal};
+ghost use Rattle.cal_resizable.specs.View.{View, IsView, HasView, management_name, new_view, segment_plan, segment_path, mapping, after_mapping, registering, SparesOthers, without_unused_of, after_retiring_of, leaving_of, unregistering, view_after_arrival, registry_after_arrival, registry_after_return, arrival_refusal, mapped_bytes};
 
 use crate::closing::close_all;
 use crate::names::segment_name;
@@ -194,6 +194,7 @@ impl<A: ShmAllocator, Shm: SharedMemory<A>> DynamicView<A, Shm> {
         ensures bytes { (held : HeldSegment) → segment_at self.now.slots (segment_of offset) ≡ Some held →
             OfValue reg.now held.handle.id (λ segment.
             result.now ≡ slice_range segment.payload (offset_of offset) (offset_of offset + count)) }
+        ensures read { mapped_bytes reg.now self.now offset count ≡ Some result.now }
     {
         let segment = self.segments.segment(offset.segment_id().value());
         segment.bytes(reg, offset, count)

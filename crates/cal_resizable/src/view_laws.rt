@@ -1,9 +1,9 @@
 //! Laws of views. Each is a theorem about the definitions that the contracts of the calls cite, and its function does
 //! nothing.
-ghost use Rattle.std.specs.Prelude.{◌≡◌, ◌≢◌, ◌↔◌, ◌⊎◌, ℕ, ◌<◌, Bool, Some, None, IsSome, IsSomeAnd};
+ghost use Rattle.std.specs.Prelude.{◌≡◌, ◌≢◌, ◌↔◌, ◌⊎◌, ℕ, ◌+◌, ◌<◌, Bool, Some, None, IsSome, IsSomeAnd};
 ghost use Rattle.cal_resizable.specs.Closing.{held_handles, CanClose};
-ghost use Rattle.cal_resizable.specs.Slots.{Handle, HeldSegment, segment_at};
-ghost use Rattle.cal_resizable.specs.View.{View, IsView, HasView, segment_path, arrival_refusal};
+ghost use Rattle.cal_resizable.specs.Slots.{Handle, HeldSegment, segment_at, count_at};
+ghost use Rattle.cal_resizable.specs.View.{View, IsView, HasView, segment_path, arrival_refusal, view_after_arrival, unregistering};
 ghost use Rattle.cal_shm.specs.Segment.{Segment};
 ghost use Rattle.cal_storage.specs.Contents.{Contents, entry_at};
 ghost use Rattle.cal_storage.specs.Refusals.{finished_version};
@@ -33,4 +33,19 @@ pub fn handles_of_a_view_are_apart<T>()
         segment_at view.slots second ≡ Some other → one.handle.id ≢ other.handle.id }
     ensures management { (contents : Contents T) (view : View) (number : ℕ) (held : HeldSegment) → IsView view →
         HasView contents view → segment_at view.slots number ≡ Some held → view.management.id ≢ held.handle.id }
+{}
+
+/// An arrival counts one offset more and a return one less, in the offset's own segment alone: the number that is
+/// registered in each other segment stays.
+pub fn arrivals_and_returns_are_counted<A>()
+    ensures arrived { (checks_version : Bool) (contents : Contents (Segment A)) (view : View) (number : ℕ) →
+        IsView view → number < 256 → arrival_refusal checks_version contents view number ≡ None →
+        count_at (view_after_arrival contents view number).slots number ≡ count_at view.slots number + 1 }
+    ensures arrived_elsewhere { (contents : Contents (Segment A)) (view : View) (number other : ℕ) → other ≢ number →
+        count_at (view_after_arrival contents view number).slots other ≡ count_at view.slots other }
+    ensures returned { (view : View) (number : ℕ) →
+        IsSomeAnd (segment_at view.slots number) (λ held. 0 < held.count) →
+        count_at (unregistering view number).slots number + 1 ≡ count_at view.slots number }
+    ensures returned_elsewhere { (view : View) (number other : ℕ) → other ≢ number →
+        count_at (unregistering view number).slots other ≡ count_at view.slots other }
 {}
