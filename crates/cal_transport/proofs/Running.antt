@@ -246,7 +246,7 @@ stops_at P l place (first ∷ commands) (reply ∷ replies) asked steps next met
 
 -- ---- a read that finds no memory
 
-shown_short : (o : Option Chunk) (at len : ℕ) → length (bytes_of_chunk o at len) ≤ len
+pub shown_short : (o : Option Chunk) (at len : ℕ) → length (bytes_of_chunk o at len) ≤ len
 shown_short None at len = omega arith
 shown_short (Some chunk) at len = let e = length-take len (drop at chunk.bytes) in omega arith
 

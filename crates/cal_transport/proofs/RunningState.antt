@@ -7,15 +7,19 @@ use Rattle.cal_transport.specs.declared.reply.Reply.{Reply}
 use Rattle.cal_transport.specs.declared.settings.Settings.{Settings}
 use Rattle.cal_transport.specs.declared.ported.chunk_entry.ChunkEntry.{ChunkEntry}
 use Rattle.cal_transport.specs.ChunkEntry.{AreBelow}
-use Rattle.cal_transport.specs.Ledger.{Ledger, Chunk, ChannelHistory, first_ledger}
-use Rattle.cal_transport.specs.Step.{IsStep, after_step}
+use Rattle.cal_transport.specs.declared.command.Command.TheVariants as command
+use Rattle.cal_transport.specs.declared.reply.Reply.TheVariants.{Shown as Bytes}
+use Rattle.cal_transport.specs.declared.reply.Refusal.{Refusal}
+use Rattle.cal_transport.specs.Cause.{cause}
+use Rattle.cal_transport.specs.Ledger.{Ledger, Chunk, ChannelHistory, first_ledger, chunk_named}
+use Rattle.cal_transport.specs.Step.{IsStep, IsStepBy, after_step, bytes_of_chunk}
 use Rattle.cal_transport.specs.Replies.{ReplyList}
 use Rattle.cal_transport.specs.Room.{TakesRoomOfOne}
 use Rattle.cal_transport.specs.Run.{AreSteps, after_steps, AreStepsAndTransit, StopsAt, transit_list, IsRun, TakesMemory, StopsForMemory}
-use Rattle.cal_transport.specs.Served.{RunsOut, StandsAfter}
+use Rattle.cal_transport.specs.Served.{RunsOut, StandsAfter, IsLeft}
 use Rattle.cal_transport.specs.Shown.{entry_of}
-use Rattle.cal_transport.specs.State.{TransportState, Represents, Does}
-use Rattle.cal_transport.proofs.Running.{NamesBelow, steps_below, first_below, steps_more, after_steps-more, steps_transit, stops_at}
+use Rattle.cal_transport.specs.State.{TransportState, Represents, Does, DoesAnywhere}
+use Rattle.cal_transport.proofs.Running.{shown_short, NamesBelow, steps_below, first_below, steps_more, after_steps-more, steps_transit, stops_at}
 
 -- the entries' names are those of the chunks
 entries_below : (t : TransportState) (l : Ledger) (n : ℕ) → Represents t l → NamesBelow l n → AreBelow t.entries n
@@ -135,3 +139,32 @@ ran_out settings commands t replies index room asked r next out =
         StopsForMemory settings commands rs
     go [] stops = tt
     go (reply ∷ rs) stops = stops
+
+-- a run that found no memory after a reply leaves the transport that gave the replies
+pub left_answered : (settings : Settings) (commands : List Command) (t : TransportState) (replies : List Reply) →
+    0 < length replies → StandsAfter settings commands replies t → IsLeft settings commands replies (Some t)
+left_answered settings commands t [] some stands = absurd (omega arith)
+left_answered settings commands t (reply ∷ replies) some stands = stands
+
+-- and before any reply it leaves none
+pub left_unanswered : (settings : Settings) (commands : List Command) (replies : List Reply)
+    (end : Option TransportState) → length replies ≡ 0 → end ≡ None → IsLeft settings commands replies end
+left_unanswered settings commands [] end none is = is
+left_unanswered settings commands (reply ∷ replies) end none is = absurd (omega arith)
+
+-- where bytes were lent, the command had no cause, and asked for as many
+pub read_ran_out : (t : TransportState) (channel name at len : ℕ) (bytes : List ℕ) →
+    DoesAnywhere t (command.Read channel name at len) (Bytes bytes) t → 0 < length bytes →
+    RunsOut t (command.Read channel name at len)
+read_ran_out t channel name at len bytes does some l stands = go (cause l (command.Read channel name at len)) refl
+    ((does 0 l stands).0)
+  where
+    go : (o : Option Refusal) → cause l (command.Read channel name at len) ≡ o →
+        IsStepBy o l 0 (command.Read channel name at len) (Bytes bytes) →
+        (0 < len) × (cause l (command.Read channel name at len) ≡ None)
+    go None e owes = (
+      let same : bytes ≡ bytes_of_chunk (chunk_named l name) at len = cc in
+          let long = ap length same in let short = shown_short (chunk_named l name) at len in omega arith,
+      e,
+    )
+    go (Some refusal) e refused = cc

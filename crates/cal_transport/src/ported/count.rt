@@ -10,6 +10,7 @@ use crate::reply::Count;
 
 impl Transport {
     /// How many segments the memory has and how many the view has mapped, and the segment that loans are served from.
+    #[tactic(none)]
     pub fn count(&self) -> Count
         ensures step { CountDoes self.now result }
     {

@@ -72,9 +72,10 @@ pub fn run_transport(
         match transport.serve(alloc, index + 1, command) {
             Ok(reply) => replies.push(reply),
             Err(_) => {
-                if replies.len() > 0 {
-                    *end = Some(transport);
+                if replies.len() == 0 {
+                    return Err(RunError::NoMemory(replies));
                 }
+                *end = Some(transport);
                 return Err(RunError::NoMemory(replies));
             }
         }

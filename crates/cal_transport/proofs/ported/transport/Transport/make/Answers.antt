@@ -15,6 +15,15 @@ pub new_memory-requires-clause-can : goal.new_memory-requires-clause-can
 new_memory-requires-clause-can c =
     subst CanOpen (sym c.clamped-settings.ensures.value) (can_open c.args.settings.now c.requires.made)
 
+pub new_memory-requires-clause-new : goal.new_memory-requires-clause-new
+new_memory-requires-clause-new c = c.new-memory_registry.ensures.empty
+
+pub new_view-requires : goal.new_view-requires
+new_view-requires c = record { alone = c.in_ok-memory.ensures.made }
+
+pub new_ports-requires-clause-new : goal.new_ports-requires-clause-new
+new_ports-requires-clause-new c = c.new-connection_registry.ensures.empty
+
 pub new_ports-requires-clause-can : goal.new_ports-requires-clause-can
 new_ports-requires-clause-can c =
     subst CanOpen (sym c.clamped-settings.ensures.value) (can_open c.args.settings.now c.requires.made)
