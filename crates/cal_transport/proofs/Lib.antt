@@ -85,6 +85,7 @@ pub mod TransitCode
 pub mod TransitChannels
 pub mod Determined
 pub mod Reaching
+pub mod Standing
 mod Serving
 pub mod FreeCode
 pub mod DiscardCode

@@ -36,6 +36,7 @@ pub mod Room
 pub mod Served
 pub mod TransitLines
 pub mod Reached
+pub mod Standing
 pub mod Counting
 pub mod Sample
 pub mod Putting

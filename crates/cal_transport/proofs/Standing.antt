@@ -1,0 +1,90 @@
+-- What a transport stands for, from what its invariant keeps: the tables follow from what the parts show.
+use Rattle.std.proofs.Common.{ℕ, ◌+◌, ◌<◌, ◌≡◌, List, [], Option, Some, None, option_map, refl, sym, ap, ◌∙◌, subst}
+use Rattle.std.specs.List.{slice_get}
+use Rattle.std.proofs.lemmas.Option.{slice_get-map}
+use Rattle.cal_transport.specs.declared.settings.Settings.{Settings}
+use Rattle.cal_transport.specs.declared.command.Command.{Command}
+use Rattle.cal_transport.specs.declared.command.Command.TheVariants as command
+use Rattle.cal_transport.specs.declared.reply.Reply.{Reply}
+use Rattle.cal_transport.specs.declared.reply.Refusal.{Refusal}
+use Rattle.cal_transport.specs.Settings.{create_cause}
+use Rattle.cal_transport.specs.ChunkEntry.{AreBelow}
+use Rattle.cal_transport.specs.Ledger.{Ledger, Chunk, first_ledger}
+use Rattle.cal_transport.specs.Cause.{cause}
+use Rattle.cal_transport.specs.Step.{IsStep, after_step, after_step_by}
+use Rattle.cal_transport.specs.Reached.{IsNewName, IsReached}
+use Rattle.cal_transport.specs.Shown.{entry_of}
+use Rattle.cal_transport.specs.State as inner
+use Rattle.cal_transport.specs.State.{TransportState, Represents, core_of}
+use Rattle.cal_transport.specs.Standing.{StandsFor, Does, DoesAnywhere}
+use Rattle.cal_transport.proofs.Determined.{tracks_any}
+use Rattle.cal_transport.proofs.Reaching.{sound_reached, reached_first, reached_step}
+use Rattle.cal_transport.proofs.Represented.{IsPlaceless}
+use Rattle.cal_transport.proofs.Settled.{settled}
+
+-- a new transport stands for the first ledger
+pub stands_first : (t : TransportState) (settings : Settings) → create_cause settings ≡ None →
+    Represents t (first_ledger settings) → StandsFor t (first_ledger settings)
+stands_first t settings made r = record { reached = reached_first settings made; shows = r.shows }
+
+-- only a loan depends on its place
+abbrev pub IsNoLoan : Command → Type 0
+IsNoLoan (command.Loan size alignment) = ⊥
+IsNoLoan asked = Unit {0}
+
+pub placeless : (l : Ledger) (asked : Command) (reply : Reply) → IsNoLoan asked → IsPlaceless l asked reply
+placeless l (command.Loan size alignment) reply no = absurd no
+placeless l (command.Write name at bytes) reply no = λ o a b. elim o [ | None ↦ refl | Some why ↦ refl ]
+placeless l (command.Send channel name) reply no = λ o a b. elim o [ | None ↦ refl | Some why ↦ refl ]
+placeless l (command.Receive channel) reply no = λ o a b. elim o [ | None ↦ refl | Some why ↦ refl ]
+placeless l (command.Read channel name at length) reply no = λ o a b. elim o [ | None ↦ refl | Some why ↦ refl ]
+placeless l (command.Release channel name) reply no = λ o a b. elim o [ | None ↦ refl | Some why ↦ refl ]
+placeless l (command.Reclaim channel) reply no = λ o a b. elim o [ | None ↦ refl | Some why ↦ refl ]
+placeless l (command.Discard name) reply no = λ o a b. elim o [ | None ↦ refl | Some why ↦ refl ]
+placeless l command.Count reply no = λ o a b. elim o [ | None ↦ refl | Some why ↦ refl ]
+
+module _ (t : TransportState) (kept : Ledger) (keeps : Represents t kept) where
+  pub inside : (l : Ledger) → StandsFor t l → Represents t l
+  inside l s =
+      let at = sound_reached l s.reached in
+      record {
+        place = at.place;
+        sound = at.sound;
+        shows = s.shows;
+        tracks = tracks_any (core_of t) kept l (settled kept keeps.place keeps.sound) (settled l at.place at.sound)
+            keeps.shows s.shows keeps.tracks;
+      }
+
+  -- a place above all entries names no chunk
+  new_name : (l : Ledger) (place : ℕ) → StandsFor t l → AreBelow t.entries place → IsNewName l place
+  new_name l place s below i chunk there =
+      below i (entry_of l.histories chunk)
+      (ap (λ es. slice_get es i) s.shows.entries ∙ slice_get-map (entry_of l.histories) l.chunks i
+      ∙ ap (λ o. option_map (entry_of l.histories) o) there)
+
+  -- an answer at a place that names no chunk
+  pub does_at : (new : TransportState) (place : ℕ) (asked : Command) (reply : Reply) → AreBelow t.entries place →
+      inner.Does t place asked reply new → Does t place asked reply new
+  does_at new place asked reply below does l s =
+      let both = does l (inside l s) in (
+        both.0,
+        record {
+          reached = reached_step l place asked reply s.reached (new_name l place s below) both.0;
+          shows = both.1.shows;
+        },
+      )
+
+  -- an answer at any place
+  pub does_anywhere : (new : TransportState) (asked : Command) (reply : Reply) → IsNoLoan asked →
+      inner.DoesAnywhere t asked reply new → DoesAnywhere t asked reply new
+  does_anywhere new asked reply no does place l s =
+      let r = inside l s in
+      let there = does r.place l r in
+      let both = does place l r in (
+        both.0,
+        record {
+          reached = subst IsReached (placeless l asked reply no (cause l asked) r.place place)
+              (reached_step l r.place asked reply s.reached r.sound.names.before there.0);
+          shows = both.1.shows;
+        },
+      )
