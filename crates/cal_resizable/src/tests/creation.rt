@@ -58,16 +58,17 @@ fn a_taken_name_is_refused<A: ShmAllocator, Shm: SharedMemory<A>>(
     Ok(())
 }
 
-/// A name is free again once its memory has closed.
-fn a_name_is_free_again<A: ShmAllocator, Shm: SharedMemory<A>>(
+/// Memory that has closed has left nothing: it isn't opened, and its name is free again.
+fn leaves_nothing<A: ShmAllocator, Shm: SharedMemory<A>>(
     rt: &impl Abort,
     alloc: Global,
+    reg: &mut Registry<AllocatorDetails<A>>,
+    name: &FileName,
 ) -> Result<(), Fail> {
-    let name = FileName::new(b"myMem").ok_or("a file name")?;
-    let mut reg = Registry::new(alloc);
-    create::<A, Shm>(alloc, &mut reg, &name)?.close(&mut reg);
     assert!(rt; reg.len() == 0);
-    let again = create::<A, Shm>(alloc, &mut reg, &name);
+    let closed = open::<A, Shm>(alloc, reg, name);
+    assert!(rt; matches!(closed.err(), Some(SharedMemoryOpenError::DoesNotExist)));
+    let again = create::<A, Shm>(alloc, reg, name);
     assert!(rt; again.is_ok());
     Ok(())
 }
@@ -99,23 +100,23 @@ fn a_long_name_is_refused<A: ShmAllocator, Shm: SharedMemory<A>>(
     Ok(())
 }
 
-/// A view opens what was created, and maps nothing yet. What it opened stays until it closes.
+/// A view opens what was created, and maps nothing yet.
 fn a_view_opens_a_memory<A: ShmAllocator, Shm: SharedMemory<A>>(
     rt: &impl Abort,
     alloc: Global,
-) -> Result<(), Fail> {
-    let name = FileName::new(b"myMem").ok_or("a file name")?;
-    let mut reg = Registry::new(alloc);
-    let memory = create::<A, Shm>(alloc, &mut reg, &name)?;
-    let view = open::<A, Shm>(alloc, &mut reg, &name)?;
+    reg: &mut Registry<AllocatorDetails<A>>,
+    name: &FileName,
+) -> Result<DynamicView<A, Shm>, Fail>
+    ensures has { IfOk result (HasView reg.new) }
+{
+    let memory = create::<A, Shm>(alloc, reg, name)?;
+    let view = open::<A, Shm>(alloc, reg, name)?;
     assert!(rt; memory.number_of_active_segments() == 1);
     assert!(rt; view.number_of_active_segments() == 0);
-    view.close(&mut reg);
-    assert!(rt; reg.len() == 2);
-    Ok(())
+    Ok(view)
 }
 
-/// A memory that isn't there, or isn't there any more, isn't opened, and neither is one whose name is too long.
+/// A memory that isn't there isn't opened, and neither is one whose name is too long.
 fn an_absent_memory_is_not_opened<A: ShmAllocator, Shm: SharedMemory<A>>(
     rt: &impl Abort,
     alloc: Global,
@@ -127,9 +128,6 @@ fn an_absent_memory_is_not_opened<A: ShmAllocator, Shm: SharedMemory<A>>(
     assert!(rt; matches!(absent.err(), Some(SharedMemoryOpenError::DoesNotExist)));
     let too_long = open::<A, Shm>(alloc, &mut reg, &long_name);
     assert!(rt; matches!(too_long.err(), Some(SharedMemoryOpenError::PathTooLong)));
-    create::<A, Shm>(alloc, &mut reg, &name)?.close(&mut reg);
-    let closed = open::<A, Shm>(alloc, &mut reg, &name);
-    assert!(rt; matches!(closed.err(), Some(SharedMemoryOpenError::DoesNotExist)));
     Ok(())
 }
 
@@ -139,9 +137,7 @@ fn each_rule<A: ShmAllocator, Shm: SharedMemory<A>>(
     alloc: Global,
 ) -> Result<(), Fail> {
     a_taken_name_is_refused::<A, Shm>(rt, alloc)?;
-    a_name_is_free_again::<A, Shm>(rt, alloc)?;
     a_long_name_is_refused::<A, Shm>(rt, alloc)?;
-    a_view_opens_a_memory::<A, Shm>(rt, alloc)?;
     an_absent_memory_is_not_opened::<A, Shm>(rt, alloc)
 }
 
@@ -149,4 +145,56 @@ fn each_rule<A: ShmAllocator, Shm: SharedMemory<A>>(
 fn each_rule_of_creation(rt: HostRuntime) -> Result<(), Fail> {
     each_rule::<PoolAllocator, process_local::Memory<PoolAllocator>>(&rt, rt.alloc())?;
     each_rule::<BumpAllocator, file::Memory<BumpAllocator>>(&rt, rt.alloc())
+}
+
+#[test]
+fn process_local_memory_closes(rt: HostRuntime) -> Result<(), Fail> {
+    let alloc = rt.alloc();
+    let name = FileName::new(b"myMem").ok_or("a file name")?;
+    let mut reg = Registry::new(alloc);
+    let memory: DynamicMemory<PoolAllocator, process_local::Memory<PoolAllocator>> = create(
+        alloc, &mut reg, &name,
+    )?;
+    memory.close(&mut reg);
+    leaves_nothing::<PoolAllocator, process_local::Memory<PoolAllocator>>(
+        &rt, alloc, &mut reg, &name,
+    )
+}
+
+#[test]
+fn memory_in_files_closes(rt: HostRuntime) -> Result<(), Fail> {
+    let alloc = rt.alloc();
+    let name = FileName::new(b"myMem").ok_or("a file name")?;
+    let mut reg = Registry::new(alloc);
+    let memory: DynamicMemory<BumpAllocator, file::Memory<BumpAllocator>> = create(
+        alloc, &mut reg, &name,
+    )?;
+    memory.close(&mut reg);
+    leaves_nothing::<BumpAllocator, file::Memory<BumpAllocator>>(&rt, alloc, &mut reg, &name)
+}
+
+/// What a view opened stays until it closes.
+#[test]
+fn a_view_of_process_local_memory_closes(rt: HostRuntime) -> Result<(), Fail> {
+    let alloc = rt.alloc();
+    let name = FileName::new(b"myMem").ok_or("a file name")?;
+    let mut reg = Registry::new(alloc);
+    let view: DynamicView<PoolAllocator, process_local::Memory<PoolAllocator>> =
+        a_view_opens_a_memory(&rt, alloc, &mut reg, &name)?;
+    view.close(&mut reg);
+    assert!(&rt; reg.len() == 2);
+    Ok(())
+}
+
+#[test]
+fn a_view_of_memory_in_files_closes(rt: HostRuntime) -> Result<(), Fail> {
+    let alloc = rt.alloc();
+    let name = FileName::new(b"myMem").ok_or("a file name")?;
+    let mut reg = Registry::new(alloc);
+    let view: DynamicView<BumpAllocator, file::Memory<BumpAllocator>> = a_view_opens_a_memory(
+        &rt, alloc, &mut reg, &name,
+    )?;
+    view.close(&mut reg);
+    assert!(&rt; reg.len() == 2);
+    Ok(())
 }
