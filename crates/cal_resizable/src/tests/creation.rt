@@ -1,7 +1,4 @@
 //! Why growing memory isn't made, why it isn't opened, and what is there after each.
-ghost use Rattle.std.specs.Prelude.{IfOk};
-ghost use Rattle.cal_resizable.specs.Memory.{HasAll};
-ghost use Rattle.cal_resizable.specs.View.{HasView};
 
 use crate::{DynamicMemory, DynamicMemoryBuilder, DynamicView, DynamicViewBuilder};
 use cal_alloc::{BumpAllocator, PoolAllocator, ShmAllocator};
@@ -20,9 +17,7 @@ fn create<A: ShmAllocator, Shm: SharedMemory<A>>(
     alloc: Global,
     reg: &mut Registry<AllocatorDetails<A>>,
     name: &FileName,
-) -> Result<DynamicMemory<A, Shm>, SharedMemoryCreateError>
-    ensures has { IfOk result (HasAll reg.new) }
-{
+) -> Result<DynamicMemory<A, Shm>, SharedMemoryCreateError> {
     let config = Shm::Configuration::default();
     DynamicMemoryBuilder::new(name)
         .config(&config)
@@ -34,16 +29,14 @@ fn open<A: ShmAllocator, Shm: SharedMemory<A>>(
     alloc: Global,
     reg: &mut Registry<AllocatorDetails<A>>,
     name: &FileName,
-) -> Result<DynamicView<A, Shm>, SharedMemoryOpenError>
-    ensures has { IfOk result (HasView reg.new) }
-{
+) -> Result<DynamicView<A, Shm>, SharedMemoryOpenError> {
     let config = Shm::Configuration::default();
     DynamicViewBuilder::new(name)
         .config(&config)
         .open(alloc, reg, AccessMode::Read)
 }
 
-/// A name is taken by one memory, whose two segments stay, until that closes.
+/// A name is taken by one memory, whose two segments stay.
 fn a_taken_name_is_refused<A: ShmAllocator, Shm: SharedMemory<A>>(
     rt: &impl Abort,
     alloc: Global,
@@ -55,21 +48,6 @@ fn a_taken_name_is_refused<A: ShmAllocator, Shm: SharedMemory<A>>(
     let second = create::<A, Shm>(alloc, &mut reg, &name);
     assert!(rt; matches!(second.err(), Some(SharedMemoryCreateError::AlreadyExists)));
     assert!(rt; reg.len() == 2);
-    Ok(())
-}
-
-/// Memory that has closed has left nothing: it isn't opened, and its name is free again.
-fn leaves_nothing<A: ShmAllocator, Shm: SharedMemory<A>>(
-    rt: &impl Abort,
-    alloc: Global,
-    reg: &mut Registry<AllocatorDetails<A>>,
-    name: &FileName,
-) -> Result<(), Fail> {
-    assert!(rt; reg.len() == 0);
-    let closed = open::<A, Shm>(alloc, reg, name);
-    assert!(rt; matches!(closed.err(), Some(SharedMemoryOpenError::DoesNotExist)));
-    let again = create::<A, Shm>(alloc, reg, name);
-    assert!(rt; again.is_ok());
     Ok(())
 }
 
@@ -100,20 +78,19 @@ fn a_long_name_is_refused<A: ShmAllocator, Shm: SharedMemory<A>>(
     Ok(())
 }
 
-/// A view opens what was created, and maps nothing yet.
+/// A view opens what was created, and maps nothing yet. What is there stays.
 fn a_view_opens_a_memory<A: ShmAllocator, Shm: SharedMemory<A>>(
     rt: &impl Abort,
     alloc: Global,
-    reg: &mut Registry<AllocatorDetails<A>>,
-    name: &FileName,
-) -> Result<DynamicView<A, Shm>, Fail>
-    ensures has { IfOk result (HasView reg.new) }
-{
-    let memory = create::<A, Shm>(alloc, reg, name)?;
-    let view = open::<A, Shm>(alloc, reg, name)?;
+) -> Result<(), Fail> {
+    let name = FileName::new(b"myMem").ok_or("a file name")?;
+    let mut reg = Registry::new(alloc);
+    let memory = create::<A, Shm>(alloc, &mut reg, &name)?;
+    let view = open::<A, Shm>(alloc, &mut reg, &name)?;
     assert!(rt; memory.number_of_active_segments() == 1);
     assert!(rt; view.number_of_active_segments() == 0);
-    Ok(view)
+    assert!(rt; reg.len() == 2);
+    Ok(())
 }
 
 /// A memory that isn't there isn't opened, and neither is one whose name is too long.
@@ -138,6 +115,7 @@ fn each_rule<A: ShmAllocator, Shm: SharedMemory<A>>(
 ) -> Result<(), Fail> {
     a_taken_name_is_refused::<A, Shm>(rt, alloc)?;
     a_long_name_is_refused::<A, Shm>(rt, alloc)?;
+    a_view_opens_a_memory::<A, Shm>(rt, alloc)?;
     an_absent_memory_is_not_opened::<A, Shm>(rt, alloc)
 }
 
@@ -145,56 +123,4 @@ fn each_rule<A: ShmAllocator, Shm: SharedMemory<A>>(
 fn each_rule_of_creation(rt: HostRuntime) -> Result<(), Fail> {
     each_rule::<PoolAllocator, process_local::Memory<PoolAllocator>>(&rt, rt.alloc())?;
     each_rule::<BumpAllocator, file::Memory<BumpAllocator>>(&rt, rt.alloc())
-}
-
-#[test]
-fn process_local_memory_closes(rt: HostRuntime) -> Result<(), Fail> {
-    let alloc = rt.alloc();
-    let name = FileName::new(b"myMem").ok_or("a file name")?;
-    let mut reg = Registry::new(alloc);
-    let memory: DynamicMemory<PoolAllocator, process_local::Memory<PoolAllocator>> = create(
-        alloc, &mut reg, &name,
-    )?;
-    memory.close(&mut reg);
-    leaves_nothing::<PoolAllocator, process_local::Memory<PoolAllocator>>(
-        &rt, alloc, &mut reg, &name,
-    )
-}
-
-#[test]
-fn memory_in_files_closes(rt: HostRuntime) -> Result<(), Fail> {
-    let alloc = rt.alloc();
-    let name = FileName::new(b"myMem").ok_or("a file name")?;
-    let mut reg = Registry::new(alloc);
-    let memory: DynamicMemory<BumpAllocator, file::Memory<BumpAllocator>> = create(
-        alloc, &mut reg, &name,
-    )?;
-    memory.close(&mut reg);
-    leaves_nothing::<BumpAllocator, file::Memory<BumpAllocator>>(&rt, alloc, &mut reg, &name)
-}
-
-/// What a view opened stays until it closes.
-#[test]
-fn a_view_of_process_local_memory_closes(rt: HostRuntime) -> Result<(), Fail> {
-    let alloc = rt.alloc();
-    let name = FileName::new(b"myMem").ok_or("a file name")?;
-    let mut reg = Registry::new(alloc);
-    let view: DynamicView<PoolAllocator, process_local::Memory<PoolAllocator>> =
-        a_view_opens_a_memory(&rt, alloc, &mut reg, &name)?;
-    view.close(&mut reg);
-    assert!(&rt; reg.len() == 2);
-    Ok(())
-}
-
-#[test]
-fn a_view_of_memory_in_files_closes(rt: HostRuntime) -> Result<(), Fail> {
-    let alloc = rt.alloc();
-    let name = FileName::new(b"myMem").ok_or("a file name")?;
-    let mut reg = Registry::new(alloc);
-    let view: DynamicView<BumpAllocator, file::Memory<BumpAllocator>> = a_view_opens_a_memory(
-        &rt, alloc, &mut reg, &name,
-    )?;
-    view.close(&mut reg);
-    assert!(&rt; reg.len() == 2);
-    Ok(())
 }
