@@ -45,7 +45,7 @@ pub use Rattle.cal_transport.proofs.Placed.{PlaceOf, place_of}
 use Rattle.cal_transport.proofs.Fronts.{is_pointer}
 use Rattle.cal_transport.proofs.Finding.{IsChunk, found_chunk, found_none}
 use Rattle.cal_transport.proofs.Lent.{IsNamable, namable, unknown_unborrowed, found_tells}
-use Rattle.cal_transport.proofs.ReleaseStep.{Releases, IsBorrowed, releases, release_unborrowed, release_full, may_release}
+use Rattle.cal_transport.proofs.ReleaseStep.{Releases, IsBorrowed, releases, release_outside, release_unborrowed, release_full, may_release}
 
 -- ---- what the receiver's call says
 
@@ -74,6 +74,18 @@ answer_full ch why is = go (is_full ch.completion) refl is
         is_full ch.completion ≡ true
     go true e q = e
     go false e q = absurd (let q2 = q in cc)
+
+-- ---- a channel that isn't there
+
+pub release_outside_does : (t : TransportState) (k name : ℕ) → t.settings.channels ≤ k →
+    DoesAnywhere t (command.Release k name) (Refused refusal.OutsideConnection) t
+release_outside_does t k name past place l r =
+    stands t l (command.Release k name) (Refused refusal.OutsideConnection) r.place place r.sound placeless
+    (λ any. release_outside (core_of t) l any k name r.shows r.tracks past)
+  where
+    placeless : IsPlaceless l (command.Release k name) (Refused refusal.OutsideConnection)
+    placeless None a b = refl
+    placeless (Some why) a b = refl
 
 module _ (t : TransportState) (linked : IsLinked t) (k : ℕ) (inside : k < t.settings.channels) (name : ℕ) where
   abbrev ch : ChannelEntry
