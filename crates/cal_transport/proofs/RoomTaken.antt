@@ -1,5 +1,5 @@
 -- How much room a command takes that makes no chunk.
-use Rattle.std.proofs.Common.{ℕ, ◌+◌, ◌-◌, ◌≤◌, ◌≡◌, length, vec_len, vec_capacity, arith}
+use Rattle.std.proofs.Common.{◌+◌, ◌-◌, ◌≤◌, ◌≡◌, length, vec_len, vec_capacity, arith}
 use Rattle.std.specs.Prelude.{Vec}
 use Rattle.cal_transport.specs.Room.{TakesRoomOfOne}
 use Rattle.cal_transport.specs.State.{TransportState}

@@ -1,4 +1,4 @@
-use Rattle.std.proofs.Common.{◌≡◌, ◌-◌, ◌∙◌, length, set, ap, arith}
+use Rattle.std.proofs.Common.{◌-◌, ◌∙◌, length, set, ap, arith}
 use Rattle.std.proofs.lemmas.List.{length-set}
 use Rattle.cal_transport.proofs.ported.taking_back.take_place.Goals as goal
 
