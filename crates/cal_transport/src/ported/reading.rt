@@ -66,7 +66,6 @@ impl Transport {
 }
 
 /// The bytes of a segment that the view has mapped, from a pointer on: they are the memory's.
-#[tactic(none)]
 fn viewed_bytes<'r>(
     memory: &TransportMemory,
     view: &TransportView,
