@@ -130,25 +130,33 @@ module _ (t : TransportState) (linked : IsLinked t) (k name at len : ℕ) where
                 house_payload t l (of l r).chunk found.entry.segment found.entry.bucket (read_house l r) pointer 0 size
                 (tells_place l r).0 (omega arith) (omega arith)
 
-            pub read_does : (whole : List ℕ) → ((s : Segment Pool) →
+            -- the bytes that the view gives
+            module _ (whole : List ℕ) (whole_is : (s : Segment Pool) →
                 segment_value t.memory_registry t.memory.slots (segment_of pointer) ≡ Some s →
-                whole ≡ bytes_at s.payload (offset_of pointer) size) → at + len ≤ size →
-                DoesAnywhere t (command.Read k name at len) (Shown (take (at + len - at) (drop at whole))) t
-            read_does whole whole_is within = does (Shown (take (at + len - at) (drop at whole))) (λ l r any.
-                reads (core_of t) l any k name at len (has l r).history (of l r).chunk
-                (take (at + len - at) (drop at whole)) r.shows r.tracks (inside_l l r) (has l r).on (of l r).named
-                (sym (tells l r) ∙ lent) (subst (λ n. at + len ≤ n) (house_size l r ∙ (read_house l r).size) within)
-                (ap (λ n. take n (drop at whole)) (let e : at + len - at ≡ len = omega arith in e)
-                ∙ ap (λ m. take len (drop at m)) (whole_bytes l r)))
-              where
-                whole_bytes : (l : Ledger) (r : Represents t l) → whole ≡ (of l r).chunk.bytes
-                whole_bytes l r =
-                    whole_is (read_house l r).segment
-                    (ap (segment_value t.memory_registry t.memory.slots) (tells_place l r).0 ∙ (read_house l r).there)
-                    ∙ ap (λ n. bytes_at (read_house l r).segment.payload n size) (tells_place l r).1
-                    ∙ ap (bytes_at (read_house l r).segment.payload
-                    (found.entry.bucket * (read_house l r).segment.allocator.buckets.size)) (house_size l r)
-                    ∙ (read_house l r).bytes
+                whole ≡ bytes_at s.payload (offset_of pointer) size) where
+              whole_bytes : (l : Ledger) (r : Represents t l) → whole ≡ (of l r).chunk.bytes
+              whole_bytes l r =
+                  whole_is (read_house l r).segment
+                  (ap (segment_value t.memory_registry t.memory.slots) (tells_place l r).0 ∙ (read_house l r).there)
+                  ∙ ap (λ n. bytes_at (read_house l r).segment.payload n size) (tells_place l r).1
+                  ∙ ap (bytes_at (read_house l r).segment.payload
+                  (found.entry.bucket * (read_house l r).segment.allocator.buckets.size)) (house_size l r)
+                  ∙ (read_house l r).bytes
+
+              pub read_long : (l : Ledger) (r : Represents t l) → length whole ≡ size
+              read_long l r =
+                  ap length (whole_bytes l r)
+                  ∙ ((settled l r.place r.sound).within found.index (of l r).chunk (of l r).stands).bytes
+                  ∙ sym (house_size l r ∙ (read_house l r).size)
+
+              pub read_does : at + len ≤ size →
+                  DoesAnywhere t (command.Read k name at len) (Shown (take (at + len - at) (drop at whole))) t
+              read_does within = does (Shown (take (at + len - at) (drop at whole))) (λ l r any.
+                  reads (core_of t) l any k name at len (has l r).history (of l r).chunk
+                  (take (at + len - at) (drop at whole)) r.shows r.tracks (inside_l l r) (has l r).on (of l r).named
+                  (sym (tells l r) ∙ lent) (subst (λ n. at + len ≤ n) (house_size l r ∙ (read_house l r).size) within)
+                  (ap (λ n. take n (drop at whole)) (let e : at + len - at ≡ len = omega arith in e)
+                  ∙ ap (λ m. take len (drop at m)) (whole_bytes l r)))
 
         pub read_past_does : (size : ℕ) → ((s : Segment Pool) →
             segment_value t.memory_registry t.memory.slots found.entry.segment ≡ Some s →

@@ -9,7 +9,7 @@ use Rattle.cal_transport.specs.ChunkEntry.{AreRising, HasNoEntry, IsFound}
 use Rattle.cal_transport.specs.State.{TransportState, core_of, Represents, IsLinked, DoesAnywhere}
 use Rattle.cal_transport.specs.StateOf.{state_of}
 use Rattle.cal_transport.proofs.Finding.{entries_rise}
-use Rattle.cal_transport.proofs.ReadCode.{read_outside_does, read_unknown_does, read_unlent_does, read_held, read_place, read_mapped, read_payload, read_does, read_past_does}
+use Rattle.cal_transport.proofs.ReadCode.{read_outside_does, read_unknown_does, read_unlent_does, read_held, read_place, read_mapped, read_payload, read_long, read_does, read_past_does}
 use Rattle.cal_transport.proofs.ReleaseCode.{marks_many, transit_mark}
 use Rattle.cal_transport.proofs.ported.transport.Transport.read.Goals as goal
 
@@ -98,7 +98,7 @@ returns-then-exceeds_bucket c =
           c.args.at c.args.length c.if-channel-self.false c.in-Some.found is lent
           c.size_at-size.result c.size_at-size.ensures.size
           (ltb-true c.size_at-size.result (c.args.at + c.args.length)
-          (sym c.exceeds_bucket.ensures.passes ∙ c.if-exceeds_bucket.true)));
+          (sym c.if-exceeds_bucket.ensures.passes)));
     }
 
 pub pointer_at-pointer-requires-clause-place : goal.pointer_at-pointer-requires-clause-place
@@ -136,6 +136,26 @@ viewed_bytes-bytes-requires-clause-within c =
     c.pointer_at-pointer.result c.pointer_at-pointer.ensures.pointer c.size_at-size.result c.size_at-size.ensures.size
     c.self.invariant.ledger c.self.invariant.represents
 
+pub overflow_add-result : goal.overflow_add-result
+overflow_add-result c =
+    let within = ltb-false c.size_at-size.result (c.args.at + c.args.length) (sym c.if-exceeds_bucket.ensures.passes) in
+    omega arith
+
+pub slice_bounds-result-end : goal.slice_bounds-result-end
+slice_bounds-result-end c =
+    let is = subst (λ es. IsFound es c.args.chunk c.in-Some.found) c.deref.ensures.value c.in-Some.ensures.found in
+    let told = subst (λ us. c.is_lent.result ≡ (nat_lt 0 c.in-Some.found.entry.transits
+    && contains (get_or us c.args.channel (none_used 0)) (c.in-Some.found.entry.segment * c.self.inside.settings.samples
+    + c.in-Some.found.entry.bucket))) c.deref-2.ensures.value c.is_lent.ensures.lent in
+    let lent = sym told ∙ c.if-not-is_lent.false in
+    let within = ltb-false c.size_at-size.result (c.args.at + c.args.length) (sym c.if-exceeds_bucket.ensures.passes) in
+    let long = read_long (state_of c.self.inside) c.self.invariant.linked c.args.channel c.args.chunk
+    c.args.at c.args.length c.if-channel-self.false c.in-Some.found is lent
+    c.pointer_at-pointer.result c.pointer_at-pointer.ensures.pointer c.size_at-size.result
+    c.size_at-size.ensures.size c.viewed_bytes-bytes.result.now c.viewed_bytes-bytes.ensures.bytes
+    c.self.invariant.ledger c.self.invariant.represents in
+    omega arith
+
 pub returns : goal.returns
 returns c =
     let is = subst (λ es. IsFound es c.args.chunk c.in-Some.found) c.deref.ensures.value c.in-Some.ensures.found in
@@ -152,5 +172,5 @@ returns c =
           c.pointer_at-pointer.result c.pointer_at-pointer.ensures.pointer c.size_at-size.result
           c.size_at-size.ensures.size c.viewed_bytes-bytes.result.now c.viewed_bytes-bytes.ensures.bytes
           (ltb-false c.size_at-size.result (c.args.at + c.args.length)
-          (sym c.exceeds_bucket.ensures.passes ∙ c.if-exceeds_bucket.false)));
+          (sym c.if-exceeds_bucket.ensures.passes)));
     }
