@@ -68,7 +68,6 @@ impl Transport {
     }
 
     /// What is known of the chunk of that name, where it is loaned or in transit.
-    #[tactic(none)]
     pub fn chunk(&self, chunk: usize) -> Option<ChunkRecord>
         ensures told { TellsChunk self.now chunk result }
     {

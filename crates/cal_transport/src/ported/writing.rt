@@ -27,7 +27,6 @@ use cal_storage::Registry;
 impl Transport {
     /// Writes bytes into a loaned chunk that wasn't sent yet, from a place in the chunk on. A refused write changes
     /// nothing; the refusals are `NotLoaned`, then `WriteAfterSend`, then `OutsideChunk`.
-    #[tactic(none)]
     pub fn write(&mut self, chunk: usize, at: usize, bytes: &[u8]) -> Result<(), Refusal>
         ensures step { WriteDoes self.old chunk at bytes.now result self.new }
         ensures room { TakesRoomOfOne self.old self.new }

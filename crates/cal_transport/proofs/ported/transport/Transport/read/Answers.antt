@@ -1,12 +1,11 @@
-use Rattle.std.proofs.Common.{ℕ, ◌≡◌, ◌<◌, ◌≤◌, ◌∙◌, ◌*◌, ◌+◌, ◌-◌, ◌&&◌, nat_lt, take, drop, Some, IsSome, get_or, sym, ap, subst, arith}
+use Rattle.std.proofs.Common.{◌≡◌, ◌<◌, ◌≤◌, ◌∙◌, ◌*◌, ◌+◌, ◌-◌, ◌&&◌, nat_lt, length, take, drop, get_or, sym, ap, subst, arith}
 use Rattle.std.proofs.lemmas.Bool.{ltb-true, ltb-false}
-use Rattle.cal_alloc.specs.PointerOffset.{segment_of}
 use Rattle.cal_queue.specs.UsedChunks.{contains, capacity_of, none_used}
 use Rattle.cal_transport.specs.declared.command.Command.TheVariants as command
 use Rattle.cal_transport.specs.declared.reply.Reply.TheVariants.{Shown, Refused}
 use Rattle.cal_transport.specs.declared.reply.Refusal.TheVariants as refusal
 use Rattle.cal_transport.specs.ChunkEntry.{AreRising, HasNoEntry, IsFound}
-use Rattle.cal_transport.specs.State.{TransportState, core_of, Represents, IsLinked, DoesAnywhere}
+use Rattle.cal_transport.specs.State.{core_of, DoesAnywhere}
 use Rattle.cal_transport.specs.StateOf.{state_of}
 use Rattle.cal_transport.proofs.Finding.{entries_rise}
 use Rattle.cal_transport.proofs.ReadCode.{read_outside_does, read_unknown_does, read_unlent_does, read_held, read_place, read_mapped, read_payload, read_long, read_does, read_past_does}
@@ -36,6 +35,10 @@ returns-in-None c = record {
       c.args.length c.if-channel-self.false
       (subst (λ es. HasNoEntry es c.args.chunk) c.deref.ensures.value c.in-None.ensures.found));
 }
+
+pub is_lent-requires-clause-channel : goal.is_lent-requires-clause-channel
+is_lent-requires-clause-channel c =
+    omega (arith, ap length c.deref-2.ensures.value, c.self.invariant.linked.lent, c.if-channel-self.false)
 
 pub is_lent-requires-clause-mark : goal.is_lent-requires-clause-mark
 is_lent-requires-clause-mark c =
@@ -73,6 +76,9 @@ returns-then-not-is_lent c =
           c.args.length c.if-channel-self.false c.in-Some.found is (sym told ∙ c.if-not-is_lent.true));
     }
 
+pub size_at-size-requires-clause-has : goal.size_at-size-requires-clause-has
+size_at-size-requires-clause-has c = c.self.invariant.linked.together.has_memory
+
 pub size_at-size-requires-clause-active : goal.size_at-size-requires-clause-active
 size_at-size-requires-clause-active c =
     let is = subst (λ es. IsFound es c.args.chunk c.in-Some.found) c.deref.ensures.value c.in-Some.ensures.found in
@@ -101,6 +107,9 @@ returns-then-exceeds_bucket c =
           (sym c.if-exceeds_bucket.ensures.passes)));
     }
 
+pub pointer_at-pointer-requires-clause-has : goal.pointer_at-pointer-requires-clause-has
+pointer_at-pointer-requires-clause-has c = c.self.invariant.linked.together.has_memory
+
 pub pointer_at-pointer-requires-clause-place : goal.pointer_at-pointer-requires-clause-place
 pointer_at-pointer-requires-clause-place c =
     let is = subst (λ es. IsFound es c.args.chunk c.in-Some.found) c.deref.ensures.value c.in-Some.ensures.found in
@@ -111,6 +120,9 @@ pointer_at-pointer-requires-clause-place c =
     read_place (state_of c.self.inside) c.self.invariant.linked c.args.channel c.args.chunk
     c.args.at c.args.length c.if-channel-self.false c.in-Some.found is lent
     c.self.invariant.ledger c.self.invariant.represents
+
+pub viewed_bytes-bytes-requires-clause-together : goal.viewed_bytes-bytes-requires-clause-together
+viewed_bytes-bytes-requires-clause-together c = c.self.invariant.linked.together
 
 pub viewed_bytes-bytes-requires-clause-mapped : goal.viewed_bytes-bytes-requires-clause-mapped
 viewed_bytes-bytes-requires-clause-mapped c =
@@ -140,6 +152,9 @@ pub overflow_add-result : goal.overflow_add-result
 overflow_add-result c =
     let within = ltb-false c.size_at-size.result (c.args.at + c.args.length) (sym c.if-exceeds_bucket.ensures.passes) in
     omega arith
+
+pub slice_bounds-result-count : goal.slice_bounds-result-count
+slice_bounds-result-count c = omega arith
 
 pub slice_bounds-result-end : goal.slice_bounds-result-end
 slice_bounds-result-end c =

@@ -1,4 +1,4 @@
-use Rattle.std.proofs.Common.{◌≡◌, ◌≢◌, ◌∙◌, ◌+◌, nat_lt, length, sym, ap, subst, arith}
+use Rattle.std.proofs.Common.{◌∙◌, ◌+◌, length, sym, subst, arith}
 use Rattle.std.proofs.lemmas.Bool.{ltb-true, ltb-false, eqb-true, eqb-false}
 use Rattle.cal_transport.specs.declared.command.Command.TheVariants as command
 use Rattle.cal_transport.specs.declared.reply.Reply.TheVariants.{Written, Refused}
@@ -40,6 +40,9 @@ returns-then-found-clause-step c =
     (write_sent_does (state_of c.self.inside) c.args.chunk c.args.at c.args.bytes.now c.in-Some.found is loaned
     c.if-found.true)
 
+pub size_at-size-requires-clause-has : goal.size_at-size-requires-clause-has
+size_at-size-requires-clause-has c = c.self.invariant.linked.together.has_memory
+
 pub size_at-size-requires-clause-active : goal.size_at-size-requires-clause-active
 size_at-size-requires-clause-active c =
     let is = subst (λ es. IsFound es c.args.chunk c.in-Some.found) c.deref.ensures.value c.in-Some.ensures.found in
@@ -52,7 +55,7 @@ returns-then-exceeds_bucket-clause-step c =
     let is = subst (λ es. IsFound es c.args.chunk c.in-Some.found) c.deref.ensures.value c.in-Some.ensures.found in
     let loaned = not_false c.in-Some.found.entry.loaned c.if-not-found.false in
     let past = ltb-true c.size_at-size.result (c.args.at + length c.args.bytes.now)
-    (sym (c.if-exceeds_bucket.ensures.passes ∙ ap (λ n. nat_lt c.size_at-size.result (c.args.at + n)) c.len.ensures)) in
+    (sym c.if-exceeds_bucket.ensures.passes) in
     subst (λ t. DoesAnywhere t (command.Write c.args.chunk c.args.at c.args.bytes.now) (Refused refusal.OutsideChunk) t) c.self.view_is
     (write_outside_does (state_of c.self.inside) c.args.chunk c.args.at c.args.bytes.now c.in-Some.found is loaned
     c.if-found.false c.size_at-size.result c.size_at-size.ensures.size past)
@@ -62,7 +65,7 @@ returns-then-is_empty-clause-step c =
     let is = subst (λ es. IsFound es c.args.chunk c.in-Some.found) c.deref.ensures.value c.in-Some.ensures.found in
     let loaned = not_false c.in-Some.found.entry.loaned c.if-not-found.false in
     let within = ltb-false c.size_at-size.result (c.args.at + length c.args.bytes.now)
-    (sym (c.if-exceeds_bucket.ensures.passes ∙ ap (λ n. nat_lt c.size_at-size.result (c.args.at + n)) c.len.ensures)) in
+    (sym c.if-exceeds_bucket.ensures.passes) in
     subst (λ t. DoesAnywhere t (command.Write c.args.chunk c.args.at c.args.bytes.now) Written t) c.self.view_is
     (write_none_does (state_of c.self.inside) c.args.chunk c.args.at c.args.bytes.now c.in-Some.found is loaned
     c.if-found.false c.size_at-size.result c.size_at-size.ensures.size within (eqb-true (length c.args.bytes.now) 0 (sym c.if-is_empty.ensures)))
@@ -72,7 +75,7 @@ overflow_mul-place c =
     let is = subst (λ es. IsFound es c.args.chunk c.in-Some.found) c.deref.ensures.value c.in-Some.ensures.found in
     let loaned = not_false c.in-Some.found.entry.loaned c.if-not-found.false in
     let within = ltb-false c.size_at-size.result (c.args.at + length c.args.bytes.now)
-    (sym (c.if-exceeds_bucket.ensures.passes ∙ ap (λ n. nat_lt c.size_at-size.result (c.args.at + n)) c.len.ensures)) in
+    (sym c.if-exceeds_bucket.ensures.passes) in
     let small = write_place (state_of c.self.inside) c.args.chunk c.args.at c.args.bytes.now c.in-Some.found is loaned
     c.if-found.false c.size_at-size.result c.size_at-size.ensures.size within
     c.self.invariant.ledger c.self.invariant.represents
@@ -84,7 +87,7 @@ overflow_add-place c =
     let is = subst (λ es. IsFound es c.args.chunk c.in-Some.found) c.deref.ensures.value c.in-Some.ensures.found in
     let loaned = not_false c.in-Some.found.entry.loaned c.if-not-found.false in
     let within = ltb-false c.size_at-size.result (c.args.at + length c.args.bytes.now)
-    (sym (c.if-exceeds_bucket.ensures.passes ∙ ap (λ n. nat_lt c.size_at-size.result (c.args.at + n)) c.len.ensures)) in
+    (sym c.if-exceeds_bucket.ensures.passes) in
     let small = write_place (state_of c.self.inside) c.args.chunk c.args.at c.args.bytes.now c.in-Some.found is loaned
     c.if-found.false c.size_at-size.result c.size_at-size.ensures.size within
     c.self.invariant.ledger c.self.invariant.represents
@@ -96,7 +99,7 @@ from_offset_and_segment_id-pointer-requires c =
     let is = subst (λ es. IsFound es c.args.chunk c.in-Some.found) c.deref.ensures.value c.in-Some.ensures.found in
     let loaned = not_false c.in-Some.found.entry.loaned c.if-not-found.false in
     let within = ltb-false c.size_at-size.result (c.args.at + length c.args.bytes.now)
-    (sym (c.if-exceeds_bucket.ensures.passes ∙ ap (λ n. nat_lt c.size_at-size.result (c.args.at + n)) c.len.ensures)) in
+    (sym c.if-exceeds_bucket.ensures.passes) in
     record {
       below = write_place (state_of c.self.inside) c.args.chunk c.args.at c.args.bytes.now c.in-Some.found is loaned
           c.if-found.false c.size_at-size.result c.size_at-size.ensures.size within
@@ -104,12 +107,15 @@ from_offset_and_segment_id-pointer-requires c =
           (eqb-false (length c.args.bytes.now) 0 (sym c.if-is_empty.ensures));
     }
 
+pub put_bytes-requires-clause-together : goal.put_bytes-requires-clause-together
+put_bytes-requires-clause-together c = c.self.invariant.linked.together
+
 pub put_bytes-requires-clause-within : goal.put_bytes-requires-clause-within
 put_bytes-requires-clause-within c =
     let is = subst (λ es. IsFound es c.args.chunk c.in-Some.found) c.deref.ensures.value c.in-Some.ensures.found in
     let loaned = not_false c.in-Some.found.entry.loaned c.if-not-found.false in
     let within = ltb-false c.size_at-size.result (c.args.at + length c.args.bytes.now)
-    (sym (c.if-exceeds_bucket.ensures.passes ∙ ap (λ n. nat_lt c.size_at-size.result (c.args.at + n)) c.len.ensures)) in
+    (sym c.if-exceeds_bucket.ensures.passes) in
     write_payload (state_of c.self.inside) c.args.chunk c.args.at c.args.bytes.now c.in-Some.found is loaned
     c.if-found.false c.size_at-size.result c.size_at-size.ensures.size within
     c.from_offset_and_segment_id-pointer.result
@@ -122,7 +128,7 @@ invariant_of-self c =
     let is = subst (λ es. IsFound es c.args.chunk c.in-Some.found) c.deref.ensures.value c.in-Some.ensures.found in
     let loaned = not_false c.in-Some.found.entry.loaned c.if-not-found.false in
     let within = ltb-false c.size_at-size.result (c.args.at + length c.args.bytes.now)
-    (sym (c.if-exceeds_bucket.ensures.passes ∙ ap (λ n. nat_lt c.size_at-size.result (c.args.at + n)) c.len.ensures)) in
+    (sym c.if-exceeds_bucket.ensures.passes) in
     record {
       ledger = after_step c.self.invariant.ledger 0 (command.Write c.args.chunk c.args.at c.args.bytes.now) Written;
       represents = (written_does (state_of c.self.inside) c.args.chunk c.args.at c.args.bytes.now c.in-Some.found is
@@ -144,7 +150,7 @@ returns-clause-step c =
     let is = subst (λ es. IsFound es c.args.chunk c.in-Some.found) c.deref.ensures.value c.in-Some.ensures.found in
     let loaned = not_false c.in-Some.found.entry.loaned c.if-not-found.false in
     let within = ltb-false c.size_at-size.result (c.args.at + length c.args.bytes.now)
-    (sym (c.if-exceeds_bucket.ensures.passes ∙ ap (λ n. nat_lt c.size_at-size.result (c.args.at + n)) c.len.ensures)) in
+    (sym c.if-exceeds_bucket.ensures.passes) in
     subst (λ t. DoesAnywhere t (command.Write c.args.chunk c.args.at c.args.bytes.now) Written
     (record (state_of c.self.inside) { memory_registry = c.put_bytes.new.reg })) c.self.view_is
     (written_does (state_of c.self.inside) c.args.chunk c.args.at c.args.bytes.now c.in-Some.found is loaned
