@@ -1,14 +1,13 @@
 -- What is told of a chunk, from what the look-ups say.
-use Rattle.std.proofs.Common.{ℕ, ◌*◌, ◌≤◌, ◌≡◌, true, false, cond, ◌||◌, nat_lt, Option, Some, None, IsSome, sym, ap, ◌∙◌, subst, arith}
+use Rattle.std.proofs.Common.{ℕ, ◌*◌, ◌≤◌, ◌≡◌, true, false, cond, ◌||◌, nat_lt, Some, None, IsSome, sym, ap, ◌∙◌, subst, arith}
 use Rattle.cal_alloc.specs.Limits.{max_memory_size}
 use Rattle.cal_alloc.specs.Pool.{Pool}
 use Rattle.cal_shm.specs.Segment.{Segment}
 use Rattle.cal_resizable.specs.Chunks.{segment_value}
 use Rattle.cal_resizable.specs.Slots.{segment_at}
-use Rattle.cal_transport.specs.declared.ported.access.ChunkRecord.{ChunkRecord}
 use Rattle.cal_transport.specs.declared.ported.chunk_entry.ChunkEntry.{ChunkEntry}
 use Rattle.cal_transport.specs.declared.ported.chunk_entry.Found.{Found}
-use Rattle.cal_transport.specs.Ledger.{Ledger, Chunk, layout_at, is_live}
+use Rattle.cal_transport.specs.Ledger.{Ledger, is_live}
 use Rattle.cal_transport.specs.ChunkEntry.{HasNoEntry, IsFound}
 use Rattle.cal_transport.specs.ChunkTold.{TellsChunk, record_of, record_where_live}
 use Rattle.cal_transport.specs.State.{TransportState, core_of, Represents}

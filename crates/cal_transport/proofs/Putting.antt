@@ -2,7 +2,7 @@
 use Rattle.std.proofs.Common.{ℕ, ◌+◌, ◌-◌, ◌≤◌, ◌≡◌, ◌≢◌, List, ◌++◌, length, take, drop, Option, Some, None, IsSomeAnd, refl, sym, ap, ◌∙◌, arith}
 use Rattle.std.specs.List.{slice_range}
 use Rattle.std.proofs.lemmas.List.{append_assoc, length-append, length-take-le, length-drop, take_all, drop-drop}
-use Rattle.std.proofs.lemmas.Option.{same_Some, none-some}
+use Rattle.std.proofs.lemmas.Option.{none-some}
 use Rattle.cal_alloc.specs.Pool.{Pool}
 use Rattle.cal_storage.specs.Contents.{Contents, value_of}
 use Rattle.cal_storage.specs.ValueLemmas.{value_of-with_value-other}

@@ -1,6 +1,5 @@
 -- A read, from what the look-ups and the view say.
-use Rattle.std.proofs.Common.{ℕ, ◌+◌, ◌-◌, ◌*◌, ◌<◌, ◌≤◌, ◌≡◌, Bool, true, false, ◌&&◌, nat_lt, List, length, take, drop, get_or, Option, Some, None, IsSome, refl, sym, ap, ◌∙◌, subst, arith}
-use Rattle.std.specs.List.{slice_get}
+use Rattle.std.proofs.Common.{ℕ, ◌+◌, ◌-◌, ◌*◌, ◌<◌, ◌≤◌, ◌≡◌, Bool, true, false, ◌&&◌, nat_lt, List, length, take, drop, get_or, Some, None, IsSome, refl, sym, ap, ◌∙◌, subst, arith}
 use Rattle.std.proofs.lemmas.Bool.{and_parts}
 use Rattle.cal_alloc.specs.PointerOffset.{offset_of, segment_of, pointer_offset}
 use Rattle.cal_alloc.specs.Pool.{Pool}
@@ -15,9 +14,8 @@ use Rattle.cal_transport.specs.declared.settings.Settings.{Settings}
 use Rattle.cal_transport.specs.declared.reply.Reply.{Reply}
 use Rattle.cal_transport.specs.declared.reply.Reply.TheVariants.{Shown, Refused}
 use Rattle.cal_transport.specs.declared.reply.Refusal.TheVariants as refusal
-use Rattle.cal_transport.specs.declared.ported.chunk_entry.ChunkEntry.{ChunkEntry}
 use Rattle.cal_transport.specs.declared.ported.chunk_entry.Found.{Found}
-use Rattle.cal_transport.specs.Ledger.{Ledger, Chunk, layout_at, is_borrowed}
+use Rattle.cal_transport.specs.Ledger.{Ledger, is_borrowed}
 use Rattle.cal_transport.specs.ChunkEntry.{HasNoEntry, IsFound}
 use Rattle.cal_transport.specs.Pointed.{HasPlace}
 use Rattle.cal_transport.specs.Shown.{bytes_at, pointer_to}
@@ -26,7 +24,7 @@ use Rattle.cal_transport.proofs.Settled.{settled}
 use Rattle.cal_transport.proofs.Represented.{IsPlaceless, stands}
 use Rattle.cal_transport.proofs.Stands.{HasHistory, has_history, Steps}
 use Rattle.cal_transport.proofs.Finding.{IsChunk, found_chunk, found_none}
-use Rattle.cal_transport.proofs.Lent.{unknown_unborrowed, found_tells}
+use Rattle.cal_transport.proofs.Lent.{found_tells}
 use Rattle.cal_transport.proofs.ReadStep.{read_outside, read_unnamed, read_unborrowed, read_past, reads}
 use Rattle.cal_transport.proofs.ReleaseCode.{registered, pointer_by}
 use Rattle.cal_transport.proofs.Housed.{HousesChunk, houses, houses_entry, house_held, house_place, house_pointer, house_payload, transit_lives_on, some_counted}
