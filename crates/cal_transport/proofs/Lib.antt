@@ -69,6 +69,7 @@ pub mod NewView
 pub mod RunningState
 pub mod NewPorts
 pub mod Owners
+pub mod Entering
 pub mod PortCalls
 pub mod Segments
 pub mod Represented

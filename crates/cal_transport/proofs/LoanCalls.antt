@@ -1,6 +1,6 @@
 -- What the memory's call says of a loan, by its answer.
-use Rattle.std.proofs.Common.{ℕ, ◌<◌, ◌≡◌, ◌⊎◌, inl, inr, true, Option, Some, None, is_some, IsSome, Result, Ok, Err, Vec, refl, sym, ◌∙◌, subst}
-use Rattle.std.specs.Prelude.{IfSome, IfOk, OnOk}
+use Rattle.std.proofs.Common.{ℕ, ◌<◌, ◌≡◌, ◌⊎◌, inl, inr, true, Option, Some, None, is_some, IsSome, Result, Ok, Err, Vec, refl, sym, ap, ◌∙◌, subst}
+use Rattle.std.specs.Prelude.{IfSome, IfOk, OnOk, OnErr}
 use Rattle.std.specs.Int.{is_power_of_two}
 use Rattle.cal_alloc.specs.Pool.{Pool, pool_refusal, pool_properties}
 use Rattle.cal_alloc.specs.PointerOffset.{segment_of}
@@ -25,6 +25,7 @@ use Rattle.cal_transport.specs.Owning.{IsTableFor}
 use Rattle.cal_transport.specs.State.{TransportState}
 use Rattle.cal_transport.specs.Ledger.{Ledger}
 use Rattle.cal_transport.specs.Cause.{current_segment}
+use Rattle.cal_transport.specs.ChunkEntry.{AreBelow}
 use Rattle.cal_transport.specs.LoanCause.{loan_cause}
 use Rattle.cal_transport.specs.State.{IsLinked, Represents}
 use Rattle.cal_transport.proofs.LoanCauses.{AreAlike, has_current, alike}
@@ -135,6 +136,8 @@ pub record PointerCalls (t : TransportState) (size alignment pointer : ℕ) (han
 pub record HandsOut (t : TransportState) (layout : SizeAndAlignment)
     (r : Result ShmPointer ResizableShmAllocationError) (handed : Contents (Segment Pool)) (memory : MemoryState) :
     Type 0 where
+  pub refused : OfSegment t.memory_registry t.memory.slots t.memory.current (λ s.
+      IfSome (allocation_refusal pool_rules t.memory_registry t.memory layout s) (λ other. r ≡ Err other))
   pub allocated : IfOk r (λ p. Allocates pool_rules t.memory_registry t.memory layout p.offset handed memory)
   pub within : IfOk r (λ p. OfSegment handed memory.slots (segment_of p.offset) (λ s.
       IsChunkWithin pool_properties s layout p.offset))
@@ -195,3 +198,44 @@ between_calls t linked size alignment power l r pointer handed memory table call
     handed memory s.allocator (pool_refusal s.allocator (record { size = size; alignment = alignment })))
     here.segment calls.allocated here.there)
     (calls.tabled here.segment here.there)
+
+-- a loan up to the pointer: the calls lead to a state from which its bucket was handed out, and no ledger has a cause
+pub record IsHanded (t : TransportState) (name size alignment pointer : ℕ) (handed : Contents (Segment Pool))
+    (memory : MemoryState) (table : Option (Vec ℕ Global)) : Type 0 where
+  pub linked : IsLinked t
+  pub below : AreBelow t.entries name
+  pub calls : PointerCalls t size alignment pointer handed memory table
+  pub between : Between t size alignment pointer handed memory table
+  pub none : (l : Ledger) → Represents t l → loan_cause (current_segment l) size alignment ≡ None
+
+pub is_handed : (t : TransportState) (name size alignment : ℕ) → IsLinked t → AreBelow t.entries name →
+    (l : Ledger) → Represents t l → (layout : SizeAndAlignment) → is_power_of_two alignment ≡ true →
+    layout ≡ (record { size = size; alignment = alignment }) →
+    (r : Result ShmPointer ResizableShmAllocationError) (p : ShmPointer) → r ≡ Ok p →
+    (handed : Contents (Segment Pool)) (memory : MemoryState) (table : Option (Vec ℕ Global)) →
+    HandsOut t layout r handed memory → LoanLaws t layout handed memory →
+    ((segment : Segment Pool) → segment_value t.memory_registry t.memory.slots t.memory.current ≡ Some segment →
+    IsTableFor (next_number_of_buckets t.memory.strategy t.memory.current layout segment.allocator) (Ok table)) →
+    IsHanded t name size alignment p.offset handed memory table
+is_handed t name size alignment linked below l r layout power layout_is answer p is handed memory table out laws
+    tabled =
+    let calls = pointer_calls t size alignment layout layout_is answer p is handed memory table out laws tabled in
+    record {
+      linked = linked;
+      below = below;
+      calls = calls;
+      between = between_calls t linked size alignment power l r p.offset handed memory table calls;
+      none = no_cause t linked size alignment power (λ segment there. subst (λ lay.
+          allocation_refusal pool_rules t.memory_registry t.memory lay segment ≡ None) layout_is
+          (unrefused t layout answer p is out.refused segment there));
+    }
+
+-- after an error memory and registry are what they were
+pub refused_same : {P : Type 0} (t : TransportState) (r : Result P ResizableShmAllocationError)
+    (e : ResizableShmAllocationError) → r ≡ Err e → (registry : Contents (Segment Pool)) (memory : MemoryState) →
+    OnErr r (registry ≡ t.memory_registry) → OnErr r (memory ≡ t.memory) →
+    record t { memory_registry = registry; memory = memory } ≡ t
+refused_same t r e is registry memory same_registry same_memory =
+    ap (λ c. record t { memory_registry = c; memory = memory })
+    (subst (λ a. OnErr a (registry ≡ t.memory_registry)) is same_registry)
+    ∙ ap (λ n. record t { memory = n }) (subst (λ a. OnErr a (memory ≡ t.memory)) is same_memory)
