@@ -65,6 +65,7 @@ pub mod NewMemory
 pub mod Openable
 pub mod Paths
 pub mod PoolRules
+pub mod NewPools
 pub mod NewView
 pub mod RunningState
 pub mod NewPorts
@@ -108,6 +109,7 @@ pub mod NextBuckets
 pub mod LoanCauses
 pub mod Handed
 pub mod LoanLent
+pub mod LoanRoom
 pub mod LoanGrowth
 pub mod LoanCode
 pub mod LoanDone

@@ -39,6 +39,14 @@ new_entry name segment bucket = record {
   transits = 0;
 }
 
+-- where the chunk of an entry lies, by its pointer
+abbrev pub slot_of_entry : ChunkEntry → ℕ → Slot
+slot_of_entry entry pointer = record {
+  chunk = entry.name;
+  segment = segment_of pointer;
+  place = offset_of pointer;
+}
+
 module _ (t : TransportState) (pointer : ℕ) (handed : Contents (Segment Pool)) (memory : MemoryState)
     (h : Hands t.memory_registry t.memory pointer handed memory) (cleared : Contents (Segment Pool))
     (put : PutsBytes memory t.view handed (segment_of pointer) (offset_of pointer)
