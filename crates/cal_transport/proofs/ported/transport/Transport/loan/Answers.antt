@@ -9,8 +9,7 @@ use Rattle.cal_resizable.specs.Chunks.{segment_value}
 use Rattle.cal_resizable.specs.Growth.{next_number_of_buckets}
 use Rattle.cal_resizable.specs.Slots.{segment_at}
 use Rattle.cal_transport.specs.declared.command.Command.TheVariants as command
-use Rattle.cal_transport.specs.declared.reply.Reply.TheVariants.{Loaned, Refused}
-use Rattle.cal_transport.specs.declared.reply.Refusal.TheVariants as refusal
+use Rattle.cal_transport.specs.declared.reply.Reply.TheVariants.{Loaned}
 use Rattle.cal_transport.specs.declared.ported.chunk_entry.ChunkEntry.{ChunkEntry}
 use Rattle.cal_transport.specs.declared.ported.loaning.LoanError.TheVariants as answer
 use Rattle.cal_transport.specs.ChunkEntry.{AreBelow}
@@ -30,13 +29,8 @@ use Rattle.cal_transport.proofs.ported.transport.Transport.loan.Goals as goal
 
 pub returns-in-None-clause-step : goal.returns-in-None-clause-step
 returns-in-None-clause-step c =
-    let t = state_of c.self.inside in
-    subst (λ s. Does s c.args.chunk (command.Loan c.args.size c.args.alignment) (Refused refusal.BadLayout) s)
-    c.self.view_is
-    (loan_bad_does t c.args.chunk
-    (subst (λ (s : TransportState). AreBelow s.entries c.args.chunk) (sym c.self.view_is) c.requires.below)
-    c.args.size c.args.alignment
-    (false_from_ne_true (is_power_of_two c.args.alignment) c.in-None.ensures.value))
+    loan_bad_does c.args.self.now c.args.chunk c.requires.below c.args.size c.args.alignment
+    (false_from_ne_true (is_power_of_two c.args.alignment) c.in-None.ensures.value)
 
 pub returns-in-None-clause-room : goal.returns-in-None-clause-room
 returns-in-None-clause-room c =
