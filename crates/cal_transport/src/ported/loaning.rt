@@ -41,7 +41,6 @@ pub enum LoanError {
 impl Transport {
     /// Loans a chunk of zeros, in any free bucket of the current segment; where that doesn't serve it, another segment
     /// is made, unless the memory is static. The name is greater than all before it, and there is room for its entry.
-    #[tactic(none)]
     pub fn loan(
         &mut self,
         alloc: Global,
@@ -90,7 +89,6 @@ impl Transport {
 }
 
 /// The table of the buckets of the segment that a loan of this layout makes, if it makes one.
-#[tactic(none)]
 fn next_owners(
     alloc: Global,
     memory: &TransportMemory,
@@ -135,7 +133,6 @@ fn new_entry(chunk: usize, pointer: PointerOffset, bucket_size: usize) -> ChunkE
 }
 
 /// Adds the table of a new segment, if there is one.
-#[tactic(none)]
 fn add_table(owners: &mut Vec<Owners>, table: Option<Owners>)
     requires room { vec_len owners.old + tables_in table ≤ vec_capacity owners.old }
     ensures owners { map vec_items owners.new.items ≡ with_table (map vec_items owners.old.items) table }
@@ -148,7 +145,6 @@ fn add_table(owners: &mut Vec<Owners>, table: Option<Owners>)
 }
 
 /// The bucket of an entry leads to the entry's index.
-#[tactic(none)]
 fn set_owner(owners: &mut Vec<Owners>, entry: ChunkEntry, index: usize)
     requires place { entry.bucket < length (table_at (map vec_items owners.old.items) entry.segment) }
     ensures owners { map vec_items owners.new.items
@@ -160,7 +156,6 @@ fn set_owner(owners: &mut Vec<Owners>, entry: ChunkEntry, index: usize)
 }
 
 /// The refusal of the same name as the memory's; only memory that grows runs out.
-#[tactic(none)]
 fn loan_error(error: ResizableShmAllocationError) -> LoanError
     requires comes { CanCome error }
     ensures answer { result ≡ loan_answer error }

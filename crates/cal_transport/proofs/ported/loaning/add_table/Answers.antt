@@ -19,14 +19,8 @@ returns-in-Some-clause-len c =
     let one = ap tables_in c.in-Some.is in
     let more = c.push_reserved.ensures.len in omega arith
 
-pub returns-in-Some-clause-capacity : goal.returns-in-Some-clause-capacity
-returns-in-Some-clause-capacity c = c.push_reserved.ensures.capacity
-
 pub returns-in_default-clause-owners : goal.returns-in_default-clause-owners
 returns-in_default-clause-owners c = ap (with_table (map vec_items c.args.owners.now.items)) (sym c.in_default.is)
 
 pub returns-in_default-clause-len : goal.returns-in_default-clause-len
 returns-in_default-clause-len c = let none = ap tables_in c.in_default.is in omega arith
-
-pub returns-in_default-clause-capacity : goal.returns-in_default-clause-capacity
-returns-in_default-clause-capacity c = refl

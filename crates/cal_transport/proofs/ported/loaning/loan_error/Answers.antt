@@ -24,9 +24,6 @@ unreachable-requires c = no_other c.in-SharedMemoryCreateError.error
     (subst CanCome c.in-SharedMemoryCreateError.is c.requires.comes) c.in_default.not-NoMemory
     c.in_default.not-InternalError
 
-pub unreachable-unreachable : goal.unreachable-unreachable
-unreachable-unreachable c = c.unreachable.result
-
 pub returns-in-ShmAllocationError : goal.returns-in-ShmAllocationError
 returns-in-ShmAllocationError c = record {
   answer = ap answer.Refused c.static_refusal.ensures.answer ∙ ap loan_answer (sym c.in-ShmAllocationError.is);

@@ -25,9 +25,3 @@ returns-clause-owners c =
     owner_set c.args.owners.now.items c.args.entry.segment c.args.entry.bucket c.requires.place
     c.index_mut.result.now c.index_mut.ensures.value c.args.index
     (with_item c.index_mut.result.now c.args.entry.bucket c.args.index) refl
-
-pub returns-clause-len : goal.returns-clause-len
-returns-clause-len c = refl
-
-pub returns-clause-capacity : goal.returns-clause-capacity
-returns-clause-capacity c = refl

@@ -32,18 +32,6 @@ returns-in-None-clause-step c =
     loan_bad_does c.args.self.now c.args.chunk c.requires.below c.args.size c.args.alignment
     (false_from_ne_true (is_power_of_two c.args.alignment) c.in-None.ensures.value)
 
-pub returns-in-None-clause-room : goal.returns-in-None-clause-room
-returns-in-None-clause-room c =
-    record { spare = omega arith; in_transit = omega arith }
-
-pub next_owners-requires : goal.next_owners-requires
-next_owners-requires c =
-    record { has = c.self.invariant.linked.together.has_memory }
-
-pub same-self : goal.same-self
-same-self c =
-    refl
-
 -- no memory for the table of the next segment's owners
 pub returns-in-Err-clause-step : goal.returns-in-Err-clause-step
 returns-in-Err-clause-step c =
@@ -54,14 +42,6 @@ returns-in-Err-clause-step c =
     c.args.size c.args.alignment c.self.invariant.linked c.in-Some.ensures.value.0
     (λ segment there. subst (λ lay. IsSome (next_number_of_buckets t.memory.strategy t.memory.current lay
     segment.allocator)) c.in-Some.ensures.value.1 (c.in-Err.ensures.table segment there)))
-
-pub returns-in-Err-clause-room : goal.returns-in-Err-clause-room
-returns-in-Err-clause-room c =
-    record { spare = omega arith; in_transit = omega arith }
-
-pub allocate-answer-requires-clause-has : goal.allocate-answer-requires-clause-has
-allocate-answer-requires-clause-has c =
-    c.self.invariant.linked.together.has_memory
 
 pub allocate-answer-requires-clause-room : goal.allocate-answer-requires-clause-room
 allocate-answer-requires-clause-room c =
