@@ -6,6 +6,8 @@ import os
 import re
 import sys
 
+sys.dont_write_bytecode = True
+
 from antt import BREAK, body_of, has_name, names_in, rewrite_uses, uses_of
 
 CRATE = "crates/cal_transport"
@@ -66,7 +68,7 @@ def parse(lines, indent):
             number += 1
             continue
         stripped = line[indent:]
-        if indent_of(line) > indent or stripped[0] in "}])":
+        if indent_of(line) > indent or stripped[0] in "}])" or stripped.startswith("unfolding "):
             # it goes on
             items[-1].lines += pending + [line]
             pending = []
@@ -87,7 +89,7 @@ def parse(lines, indent):
                 trailing.append(inner.pop())
             items += attach(pending)
             item = Item(None, comment_of(pending) + head)
-            item.inner = parse(inner, indent + 2)
+            item.inner = parse(inner, min(indent_of(line) for line in inner if line.strip()))
             items.append(item)
             pending = trailing
             continue
@@ -288,7 +290,7 @@ def main():
     write(lib, "\n".join(lines))
     drop_dangling(files, dropped)
     print(f"{len(dropped)} lemmas dropped, {len(gone)} files whole")
-    report_old()
+    report_lost()
 
 
 def drop_dangling(files, dropped):
@@ -308,17 +310,22 @@ def drop_dangling(files, dropped):
                 write(path, new)
 
 
-def report_old():
-    """Imports of definitions that are gone."""
-    specs = {name[: -len(".antt")] for name in os.listdir(os.path.join(CRATE, "specs")) if name.endswith(".antt")}
+def report_lost():
+    """Imports from the crate's own definitions and lemmas of what isn't there."""
     for folder in ("src", "specs", "proofs"):
         for top, _, names in os.walk(os.path.join(CRATE, folder)):
             for name in names:
                 path = os.path.join(top, name)
                 for _, match in uses_of(read(path)):
-                    found = re.match(r"Rattle\.cal_transport\.specs\.(\w+)", match.group("path"))
-                    if found and found.group(1) not in specs and found.group(1) != "declared":
-                        print(f"{path} imports {match.group('path')}")
+                    found = re.match(r"Rattle\.cal_transport\.((?:specs|proofs)\.[A-Z]\w*)$", match.group("path"))
+                    if not found:
+                        continue
+                    file = os.path.join(CRATE, found.group(1).replace(".", "/") + ".antt")
+                    text = read(file) if os.path.exists(file) else ""
+                    for what in names_in(match) or [""]:
+                        what = what.split(" as ")[0].strip()
+                        if not re.search(rf"^ *(?:\S+ )*{re.escape(what)}\b", text, re.M):
+                            print(f"{path} imports {match.group('path')}.{what}, which isn't there")
 
 
 main()

@@ -6,6 +6,8 @@ import re
 import shutil
 import sys
 
+sys.dont_write_bytecode = True
+
 from antt import add_names, body_of, has_name, names_in, rewrite_uses, uses_of
 
 CRATE = "crates/cal_transport"
@@ -14,8 +16,11 @@ NAME = "Rattle.cal_transport"
 # definitions that only the old transport has
 OLD_SPECS = ["Built", "ChunkRecord", "Parts", "PartsOf", "Rules", "Transit"]
 
-# those of `Parts` that stay, and where
+# those of `Parts` that stay, in `Soundness`
 MOVED = ["weight", "IsOrderly"]
+
+# where those of `Parts` are found that stay; `Shown` has its own `bytes_at`, which is the same
+FOUND_IN = {"weight": "Soundness", "IsOrderly": "Soundness", "bytes_at": "Shown"}
 
 OLD_SOURCES = [
     "chunk_record.rt",
@@ -132,16 +137,16 @@ def moved_paths(text):
 
 
 def moved_names(text):
-    """`weight` and `IsOrderly` stand in `Soundness`."""
+    """What stays of `Parts` is imported from where it is found."""
     old = f"{NAME}.specs.Parts"
     wanted = []
     for _, match in uses_of(text):
         if match.group("path") == old:
-            wanted += [name for name in names_in(match) or [] if name in MOVED]
-    if not wanted:
-        return text
-    text = add_names(text, f"{NAME}.specs.Soundness", wanted, before=old)
-    return rewrite_uses(text, lambda module, name: module != old or name not in MOVED)
+            wanted += [name for name in names_in(match) or [] if name in FOUND_IN]
+    for module in sorted({FOUND_IN[name] for name in wanted}):
+        names = [name for name in wanted if FOUND_IN[name] == module]
+        text = add_names(text, f"{NAME}.specs.{module}", names, before=old)
+    return rewrite_uses(text, lambda module, name: module != old or name not in FOUND_IN)
 
 
 # ---- definitions
