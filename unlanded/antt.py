@@ -56,7 +56,7 @@ def rewrite_uses(text, rule):
     lines = []
     for line in text.split("\n"):
         match = USE.match(line.strip())
-        if not match:
+        if not match or "pub use" in match.group("head"):
             lines.append(line)
             continue
         indent = line[: len(line) - len(line.lstrip())]

@@ -13,6 +13,16 @@ from antt import BREAK, body_of, has_name, names_in, rewrite_uses, uses_of
 CRATE = "crates/cal_transport"
 PROOFS = "Rattle.cal_transport.proofs"
 
+# what is left of a file, where its first line told more
+HEADS = {
+    "Arrivals": "-- What a view has mapped after an offset has arrived, as its calls say it.",
+    "Changing": "-- What several commands' proofs share: marks of a pool and of a list of used buckets, pointers, and tests.",
+    "Growing": "-- The segment that a loan makes has sizes that fit, and a ledger that grew by it stays sound.",
+    "Opening": "-- Settings with no cause have what a transport needs, and so have they as they count.",
+    "Running": "-- Whole runs: the names of chunks are below the next place, and how steps make a run.",
+    "Steps": "-- The chunk of a name: where it stands in a list of chunks, and what a change of it is.",
+}
+
 HEAD = re.compile(r"^(?:(?:abbrev|pub|record|data|unfoldable) )*(?P<name>[^\s:(){}]+)")
 
 
@@ -178,10 +188,15 @@ def reach(files, todo):
     reached = set()
     while todo:
         module, name = todo.pop()
-        if module not in files or (module, name) in reached or name not in files[module].defined:
+        if module not in files or (module, name) in reached:
+            continue
+        file = files[module]
+        if name not in file.defined:
+            # handed on from another file, or nothing of ours
+            if name in file.imported and file.imported[name] != (module, name):
+                todo.append(file.imported[name])
             continue
         reached.add((module, name))
-        file = files[module]
         todo += named(file.defined[name], file.defined, module, file.imported, files)
     return reached
 
@@ -282,6 +297,8 @@ def main():
             continue
         text = "\n".join(file.head + lines_of(pruned(file.items, module, reached)))
         text = without_double_blanks(text)
+        if module in HEADS:
+            text = re.sub(r"\A(--[^\n]*\n)+", HEADS[module] + "\n", text)
         before, after = body_of(file.text), body_of(text)
         text = rewrite_uses(text, lambda path, name: has_name(after, name) or not has_name(before, name))
         write(file.path, text)
