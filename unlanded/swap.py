@@ -9,7 +9,9 @@ import sys
 sys.dont_write_bytecode = True
 
 from antt import add_names, body_of, has_name, names_in, rewrite_uses, uses_of
+from lemmas import all_files, unnamed
 
+UNNAMED = os.path.join(os.path.dirname(__file__), "unnamed.txt")
 CRATE = "crates/cal_transport"
 NAME = "Rattle.cal_transport"
 
@@ -255,6 +257,8 @@ def join_modules():
 def main():
     if not os.path.exists(path("src", "ported.rt")):
         sys.exit("nothing is left to be swapped")
+    with open(UNNAMED, "w", encoding="utf-8") as file:
+        file.write("".join(f"{module} {name}\n" for module, name in sorted(unnamed(all_files()))))
     drop_old()
     move_sources()
     join_modules()
