@@ -127,10 +127,13 @@ def drop_dangling(dropped):
             text = read(path)
 
             def stays(module, what):
-                what = what.split(" as ")[0].strip()
+                original = what.split(" as ")[0].strip()
+                if module.split(".")[-1] == original:
+                    # a whole module
+                    return is_there(module, None) or has_name(body_of(text), what)
                 if module.startswith(PROOFS + "."):
-                    return (module[len(PROOFS) + 1 :], what) not in dropped
-                return is_there(module, what) or has_name(body_of(text), what)
+                    return (module[len(PROOFS) + 1 :], original) not in dropped
+                return is_there(module, original) or has_name(body_of(text), what)
 
             new = rewrite_uses(text, stays)
             if new != text:
