@@ -31,8 +31,8 @@ use Rattle.cal_transport.specs.declared.reply.Reply.TheVariants.{Loaned, Refused
 use Rattle.cal_transport.specs.declared.reply.Refusal.{Refusal}
 use Rattle.cal_transport.specs.declared.reply.Refusal.TheVariants as refusal
 use Rattle.cal_transport.specs.declared.reply.Slot.{Slot}
-use Rattle.cal_transport.specs.declared.ported.loaning.LoanError.{LoanError}
-use Rattle.cal_transport.specs.declared.ported.loaning.LoanError.TheVariants as answer
+use Rattle.cal_transport.specs.declared.transport.loaning.LoanError.{LoanError}
+use Rattle.cal_transport.specs.declared.transport.loaning.LoanError.TheVariants as answer
 use Rattle.cal_transport.specs.Ledger.{Ledger, Chunk, layout_at, current, is_live}
 use Rattle.cal_transport.specs.Cause.{current_segment}
 use Rattle.cal_transport.specs.ChunkEntry.{AreBelow}

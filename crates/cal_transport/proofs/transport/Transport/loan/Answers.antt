@@ -1,77 +1,102 @@
-use Rattle.std.proofs.Common.{◌-◌, ◌/◌, vec_len, vec_capacity, set, replicate, sym, ap, ◌∙◌, subst}
-use Rattle.cal_alloc.specs.PointerOffset.{offset_of}
+use Rattle.std.proofs.Common.{◌≡◌, ◌<◌, ◌≤◌, ◌+◌, ◌-◌, ◌/◌, ◌^◌, ◌∙◌, length, map, replicate, Option, Some, None, IsSome, Ok, Err, ◌⊎◌, vec_items, sym, ap, subst, refl, arith}
+use Rattle.std.proofs.lemmas.Bool.{false_from_ne_true}
+use Rattle.std.specs.Prelude.{IfErr, OnErr}
+use Rattle.std.specs.Int.{is_power_of_two}
+use Rattle.cal_alloc.specs.Pool.{Pool, pool_refusal, pool_properties}
+use Rattle.cal_alloc.specs.PointerOffset.{offset_of, segment_of}
+use Rattle.cal_alloc.specs.SizeAndAlignment.{SizeAndAlignment}
+use Rattle.cal_shm.specs.Calls.{IsChunkWithin}
+use Rattle.cal_shm.specs.Segment.{Segment}
+use Rattle.cal_shm.specs.declared.errors.SharedMemoryCreateError.TheVariants as create
+use Rattle.cal_resizable.specs.Growth.{OfSegment, allocation_refusal, next_number_of_buckets}
+use Rattle.cal_resizable.specs.declared.errors.ResizableShmAllocationError.TheVariants as memory
 use Rattle.cal_transport.specs.declared.command.Command.TheVariants as command
 use Rattle.cal_transport.specs.declared.reply.Reply.TheVariants.{Loaned, Refused}
-use Rattle.cal_transport.specs.Step.{with_bytes}
-use Rattle.cal_transport.specs.ChunkRecord.{AreBelow}
-use Rattle.cal_transport.specs.Parts.{Does}
-use Rattle.cal_transport.specs.PartsOf.{parts_of}
-use Rattle.cal_transport.proofs.Steps.{sound_after}
-use Rattle.cal_transport.proofs.Loaning.{loaned_by, loan_refused_by, below_next, below_loaned}
+use Rattle.cal_transport.specs.declared.reply.Refusal.TheVariants as refusal
+use Rattle.cal_transport.specs.declared.transport.loaning.LoanError.TheVariants as answer
+use Rattle.cal_transport.specs.ChunkEntry.{AreBelow}
+use Rattle.cal_transport.specs.CommandsDo.{LoanDoes}
+use Rattle.cal_transport.specs.LoanErrors.{loan_answer}
+use Rattle.cal_transport.specs.Owning.{IsTableFor}
+use Rattle.cal_transport.specs.State.{TransportState, Does}
+use Rattle.cal_transport.specs.StateOf.{state_of}
+use Rattle.cal_transport.proofs.LiveFew.{room_for_one}
+use Rattle.cal_transport.proofs.LoanCalls.{ErrorCall, refusing, unrefused, no_cause, PointerCalls, between_calls}
+use Rattle.cal_transport.proofs.PoolRules.{pool_rules}
+use Rattle.cal_transport.proofs.LoanCode.{loan_bad_does, table_runs_out, error_comes, error_does}
+use Rattle.cal_transport.proofs.LoanDone.{starts_bucket, loaned_linked, loaned_does}
 use Rattle.cal_transport.proofs.transport.Transport.loan.Goals as goal
 
-pub returns-in-Err-clause-step : goal.returns-in-Err-clause-step
-returns-in-Err-clause-step c = subst
-    (λ p. Does p c.args.name (command.Loan c.args.size c.args.alignment) (Refused c.refusal_of.result)
-    (record (parts_of c.self.inside) { pool = c.allocate.new.self })) c.self.view_is
-    (loan_refused_by (parts_of c.self.inside) c.args.name c.args.size c.args.alignment c.in-Some.layout c.in-Err.error
-    c.allocate.new.self c.refusal_of.result
-    c.in-Some.ensures.value.1 c.in-Some.ensures.value.0 c.in-Err.ensures.refused c.in-Err.ensures.err
-    c.refusal_of.ensures.same)
+pub returns-in-None : goal.returns-in-None
+returns-in-None c =
+    let below = subst (λ (t : TransportState). AreBelow t.entries c.args.chunk) (sym c.self.view_is)
+    c.requires.below in
+    record {
+      step = subst (λ t. Does t c.args.chunk (command.Loan c.args.size c.args.alignment)
+          (Refused refusal.BadLayout) t) c.self.view_is
+          (loan_bad_does (state_of c.self.inside) c.args.chunk below c.args.size c.args.alignment
+          (false_from_ne_true (is_power_of_two c.args.alignment) c.in-None.ensures.value));
+      room = record { spare = omega arith; in_transit = omega arith };
+    }
 
-pub returns-in-Err-clause-named : goal.returns-in-Err-clause-named
-returns-in-Err-clause-named c = below_next c.self.inside.records.items c.args.name
-    (subst (λ p. AreBelow p.records c.args.name) (sym c.self.view_is) c.requires.below)
+pub allocate-answer-requires-clause-room : goal.allocate-answer-requires-clause-room
+allocate-answer-requires-clause-room c =
+    let long = c.self.inside.entries.ok in
+    room_for_one (state_of c.self.inside) c.self.invariant.ledger c.self.invariant.represents (omega arith)
 
-pub invariant_of-self-2 : goal.invariant_of-self-2
-invariant_of-self-2 c = sound_after (parts_of c.self.inside) _ c.args.name (command.Loan c.args.size c.args.alignment)
-    (Loaned (record { chunk = c.args.name; segment = 0; place = c.offset-place.result })) c.self.invariant.0
-    c.self.invariant.1
-    (loaned_by (parts_of c.self.inside) c.args.name c.args.size c.args.alignment c.in-Some.layout c.in-Ok.pointer
-    c.offset-place.result c.bucket_of-bucket.result c.allocate.new.self
-    c.clear.new.memory.items c.push_reserved.new.self.items
-    (set c.self.inside.record_indices.items c.bucket_of-bucket.result c.len.result)
-    (vec_capacity c.push_reserved.new.self - vec_len c.push_reserved.new.self)
-    (subst (λ p. AreBelow p.records c.args.name) (sym c.self.view_is) c.requires.below)
-    c.self.invariant.1.ready.size c.in-Some.ensures.value.1 c.in-Some.ensures.value.0 c.in-Ok.ensures.refused
-    c.in-Ok.ensures.given c.offset-place.ensures.value
-    (c.bucket_of-bucket.ensures.value ∙ ap (λ q. offset_of c.in-Ok.pointer / q.buckets.size) c.in-Ok.ensures.given.after
-    ∙ ap (λ n. n / c.self.inside.pool.buckets.size) (sym c.offset-place.ensures.value))
-    (c.clear.ensures.written ∙ ap (λ n. with_bytes c.self.inside.memory.items c.offset-place.result (replicate n 0))
-    (c.bucket_size.ensures.value ∙ ap (λ q. q.buckets.size) c.in-Ok.ensures.given.after))
-    c.push_reserved.ensures.items
-    (ap (set c.self.inside.record_indices.items c.bucket_of-bucket.result)
-    (c.len.ensures ∙ c.self.inside.records.ok.0)))
+-- no memory for the table of the next segment's owners
+pub returns-in-Err : goal.returns-in-Err
+returns-in-Err c =
+    let t = state_of c.self.inside in
+    let below = subst (λ (s : TransportState). AreBelow s.entries c.args.chunk) (sym c.self.view_is)
+    c.requires.below in
+    let power = c.in-Some.ensures.value.0 in
+    let layout_is = c.in-Some.ensures.value.1 in
+    let asked : SizeAndAlignment = record { size = c.args.size; alignment = c.args.alignment } in
+    record {
+      step = subst (λ s. LoanDoes s c.args.chunk c.args.size c.args.alignment (Err answer.NoMemory) s) c.self.view_is
+          (table_runs_out t c.args.chunk below c.args.size c.args.alignment c.self.invariant.linked power
+          (λ segment there. subst (λ lay. IsSome (next_number_of_buckets t.memory.strategy t.memory.current lay
+          segment.allocator)) layout_is (c.in-Err.ensures.table segment there)));
+      room = record { spare = omega arith; in_transit = omega arith };
+    }
 
-pub returns-clause-step : goal.returns-clause-step
-returns-clause-step c = subst
-    (λ p. Does p c.args.name (command.Loan c.args.size c.args.alignment)
-    (Loaned (record { chunk = c.args.name; segment = 0; place = c.offset-place.result }))
-    (record (parts_of c.self.inside) {
-      pool = c.allocate.new.self;
-      memory = c.clear.new.memory.items;
-      records = c.push_reserved.new.self.items;
-      record_indices =
-          set c.self.inside.record_indices.items c.bucket_of-bucket.result c.len.result;
-      room = (vec_capacity c.push_reserved.new.self - vec_len c.push_reserved.new.self);
-    })) c.self.view_is
-    (loaned_by (parts_of c.self.inside) c.args.name c.args.size c.args.alignment c.in-Some.layout c.in-Ok.pointer
-    c.offset-place.result c.bucket_of-bucket.result c.allocate.new.self
-    c.clear.new.memory.items c.push_reserved.new.self.items
-    (set c.self.inside.record_indices.items c.bucket_of-bucket.result c.len.result)
-    (vec_capacity c.push_reserved.new.self - vec_len c.push_reserved.new.self)
-    (subst (λ p. AreBelow p.records c.args.name) (sym c.self.view_is) c.requires.below)
-    c.self.invariant.1.ready.size c.in-Some.ensures.value.1 c.in-Some.ensures.value.0 c.in-Ok.ensures.refused
-    c.in-Ok.ensures.given c.offset-place.ensures.value
-    (c.bucket_of-bucket.ensures.value ∙ ap (λ q. offset_of c.in-Ok.pointer / q.buckets.size) c.in-Ok.ensures.given.after
-    ∙ ap (λ n. n / c.self.inside.pool.buckets.size) (sym c.offset-place.ensures.value))
-    (c.clear.ensures.written ∙ ap (λ n. with_bytes c.self.inside.memory.items c.offset-place.result (replicate n 0))
-    (c.bucket_size.ensures.value ∙ ap (λ q. q.buckets.size) c.in-Ok.ensures.given.after))
-    c.push_reserved.ensures.items
-    (ap (set c.self.inside.record_indices.items c.bucket_of-bucket.result)
-    (c.len.ensures ∙ c.self.inside.records.ok.0)))
+-- the memory's error can be one of a transport
+pub loan_error-requires : goal.loan_error-requires
+loan_error-requires c =
+    let t = state_of c.self.inside in
+    let below = subst (λ (s : TransportState). AreBelow s.entries c.args.chunk) (sym c.self.view_is)
+    c.requires.below in
+    let power = c.in-Some.ensures.value.0 in
+    let layout_is = c.in-Some.ensures.value.1 in
+    let asked : SizeAndAlignment = record { size = c.args.size; alignment = c.args.alignment } in
+    let call : ErrorCall t asked c.allocate-answer.result c.in-Err-2.error =
+    subst (λ lay. ErrorCall t lay c.allocate-answer.result c.in-Err-2.error) layout_is (record {
+      is = c.in-Err-2.is;
+      refused = c.allocate-answer.ensures.refused;
+      why = subst (λ r. IfErr r (λ error. OfSegment t.memory_registry t.memory.slots t.memory.current (λ s.
+          (allocation_refusal pool_rules t.memory_registry t.memory c.in-Some.layout s ≡ Some error)
+          ⊎ (error ≡ memory.SharedMemoryCreateError create.NoMemory)))) c.in-Err-2.is c.allocate-answer.ensures.error;
+      serves = subst (λ r. OnErr r (OfSegment t.memory_registry t.memory.slots t.memory.current (λ s.
+          IsSome (pool_refusal s.allocator c.in-Some.layout)))) c.in-Err-2.is c.allocate-answer.ensures.serves;
+    }) in
+    record {
+      comes = error_comes t c.args.chunk below c.args.size c.args.alignment c.self.invariant.linked power
+          c.in-Err-2.error (refusing t asked c.allocate-answer.result c.in-Err-2.error call)
+          c.self.invariant.ledger c.self.invariant.represents;
+    }
 
-pub returns-clause-named : goal.returns-clause-named
-returns-clause-named c = below_loaned c.self.inside.records.items c.push_reserved.new.self.items c.args.name
-    c.bucket_of-bucket.result
-    (subst (λ p. AreBelow p.records c.args.name) (sym c.self.view_is) c.requires.below) c.push_reserved.ensures.items
+pub clear_bucket-bucket-requires : goal.clear_bucket-bucket-requires
+clear_bucket-bucket-requires c = ?
+
+pub add_table-requires : goal.add_table-requires
+add_table-requires c = ?
+
+pub set_owner-requires : goal.set_owner-requires
+set_owner-requires c = ?
+
+pub invariant_of-self : goal.invariant_of-self
+invariant_of-self c = ?
+
+pub returns : goal.returns
+returns c = ?
