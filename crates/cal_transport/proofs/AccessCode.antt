@@ -1,15 +1,13 @@
 -- What is told of a chunk, from what the look-ups say.
-use Rattle.std.proofs.Common.{ℕ, ◌*◌, ◌≤◌, ◌≡◌, Bool, true, false, cond, not, ◌||◌, ◌&&◌, nat_eq, nat_lt, Option, Some, None, IsSome, refl, sym, ap, ◌∙◌, subst, arith}
-use Rattle.std.proofs.lemmas.Bool.Decides.{nat_tests}
+use Rattle.std.proofs.Common.{ℕ, ◌*◌, ◌≤◌, ◌≡◌, true, false, cond, ◌||◌, nat_lt, Some, None, IsSome, sym, ap, ◌∙◌, subst, arith}
 use Rattle.cal_alloc.specs.Limits.{max_memory_size}
 use Rattle.cal_alloc.specs.Pool.{Pool}
 use Rattle.cal_shm.specs.Segment.{Segment}
 use Rattle.cal_resizable.specs.Chunks.{segment_value}
 use Rattle.cal_resizable.specs.Slots.{segment_at}
-use Rattle.cal_transport.specs.declared.ported.access.ChunkRecord.{ChunkRecord}
 use Rattle.cal_transport.specs.declared.ported.chunk_entry.ChunkEntry.{ChunkEntry}
 use Rattle.cal_transport.specs.declared.ported.chunk_entry.Found.{Found}
-use Rattle.cal_transport.specs.Ledger.{Ledger, Chunk, layout_at, is_live}
+use Rattle.cal_transport.specs.Ledger.{Ledger, is_live}
 use Rattle.cal_transport.specs.ChunkEntry.{HasNoEntry, IsFound}
 use Rattle.cal_transport.specs.ChunkTold.{TellsChunk, record_of, record_where_live}
 use Rattle.cal_transport.specs.State.{TransportState, core_of, Represents}
@@ -79,12 +77,3 @@ module _ (t : TransportState) (name : ℕ) where
           })) (size_is (told_house l r).segment (told_house l r).there ∙ (told_house l r).size)
           ∙ sym (ap (record_where_live l) (of l r).named
           ∙ ap (λ b. cond b (Some (record_of l (of l r).chunk)) None) (lives_as l r ∙ alive))
-
--- the test of the code
-pub neither_one : (loaned : Bool) (transits : ℕ) → (not loaned && nat_eq transits 0) ≡ true →
-    (loaned || nat_lt 0 transits) ≡ false
-neither_one loaned transits is = grind (arith, nat_tests)
-
-pub one_of_both : (loaned : Bool) (transits : ℕ) → (not loaned && nat_eq transits 0) ≡ false →
-    (loaned || nat_lt 0 transits) ≡ true
-one_of_both loaned transits is = grind (arith, nat_tests)

@@ -1,10 +1,10 @@
 -- What the memory of a transport has of a live chunk: its segment, and the chunk's bytes there.
-use Rattle.std.proofs.Common.{ℕ, ◌+◌, ◌*◌, ◌<◌, ◌≤◌, ◌≡◌, ◌||◌, true, nat_lt, length, Option, Some, None, IsSome, is_some, IsSomeAnd, refl, sym, ap, ◌∙◌, subst, arith, mul-le-mul_left}
+use Rattle.std.proofs.Common.{ℕ, ◌+◌, ◌*◌, ◌≤◌, ◌≡◌, true, nat_lt, length, Option, Some, None, IsSome, is_some, IsSomeAnd, refl, sym, ap, ◌∙◌, subst, arith, mul-le-mul_left}
 use Rattle.std.specs.List.{slice_get}
 use Rattle.std.proofs.lemmas.Bool.{or_left, or_right}
 use Rattle.cal_alloc.specs.Growth.{SegmentLayout}
 use Rattle.cal_alloc.specs.Limits.{max_memory_size}
-use Rattle.cal_alloc.specs.PointerOffset.{offset_of, segment_of, pointer_offset}
+use Rattle.cal_alloc.specs.PointerOffset.{offset_of, segment_of}
 use Rattle.cal_alloc.specs.Pool.{Pool}
 use Rattle.cal_shm.specs.Calls.{IsInPayload}
 use Rattle.cal_shm.specs.Segment.{Segment}

@@ -1,18 +1,19 @@
 -- What a segment of a memory has after bytes were written into it, as the calls say it.
-use Rattle.std.proofs.Common.{ℕ, ◌+◌, ◌≤◌, ◌≡◌, ◌≢◌, List, ◌++◌, length, take, drop, Option, Some, None, IsSomeAnd, refl, sym, ap, ◌∙◌, arith}
+use Rattle.std.proofs.Common.{ℕ, ◌+◌, ◌-◌, ◌≤◌, ◌≡◌, ◌≢◌, List, ◌++◌, length, take, drop, Option, Some, None, IsSomeAnd, refl, sym, ap, ◌∙◌, arith}
+use Rattle.std.specs.List.{slice_range}
 use Rattle.std.proofs.lemmas.List.{append_assoc, length-append, length-take-le, length-drop, take_all, drop-drop}
-use Rattle.std.proofs.lemmas.Option.{same_Some, none-some}
+use Rattle.std.proofs.lemmas.Option.{none-some}
 use Rattle.cal_alloc.specs.Pool.{Pool}
 use Rattle.cal_storage.specs.Contents.{Contents, value_of}
 use Rattle.cal_storage.specs.ValueLemmas.{value_of-with_value-other}
-use Rattle.cal_shm.specs.Calls.{IsInPayload, with_written, with_written_in}
+use Rattle.cal_shm.specs.Calls.{OfValue, IsInPayload, with_written, with_written_in}
 use Rattle.cal_shm.specs.Segment.{Segment, overwritten}
 use Rattle.cal_shm.specs.Segment as segment
 use Rattle.cal_shm.specs.WrittenLemmas.{value_of-with_written}
 use Rattle.cal_resizable.specs.Chunks.{segment_value, value_in}
 use Rattle.cal_resizable.specs.Growth.{OfSegment}
 use Rattle.cal_resizable.specs.Memory.{MemoryState}
-use Rattle.cal_resizable.specs.Slots.{HeldSegment, segment_at, id_at_slot, id_in}
+use Rattle.cal_resizable.specs.Slots.{Slots, HeldSegment, segment_at, id_at_slot, id_in}
 use Rattle.cal_resizable.specs.Together.{AreTogether}
 use Rattle.cal_resizable.specs.View.{View}
 use Rattle.cal_transport.specs.Step.{with_bytes}
@@ -37,6 +38,29 @@ overwritten_is m a bytes fits =
       length-drop (length bytes) (drop a m),
       length-drop a m,
     )
+
+-- as many bytes are lent as were asked for
+module _ {A : Type 0} (contents : Contents (Segment A)) (slots : Slots) (number place count : ℕ) (bytes : List ℕ) where
+  pub lent_long : OfSegment contents slots number (λ s. IsInPayload s.payload place count) →
+      OfSegment contents slots number (λ s. bytes ≡ slice_range s.payload place (place + count)) →
+      length bytes ≡ count
+  lent_long = go (segment_at slots number)
+    where
+      at_value : (o : Option (Segment A)) → IsSomeAnd o (λ s. IsInPayload s.payload place count) →
+          IsSomeAnd o (λ s. bytes ≡ slice_range s.payload place (place + count)) → length bytes ≡ count
+      at_value None within is = absurd within
+      at_value (Some s) within is =
+          ap length is
+          ∙ length-take-le (place + count - place) (drop place s.payload)
+          (let long = length-drop place s.payload in omega arith)
+          ∙ (let e : place + count - place ≡ count = omega arith in e)
+
+      go : (o : Option HeldSegment) →
+          IsSomeAnd o (λ held. OfValue contents held.handle.id (λ s. IsInPayload s.payload place count)) →
+          IsSomeAnd o (λ held. OfValue contents held.handle.id
+          (λ s. bytes ≡ slice_range s.payload place (place + count))) → length bytes ≡ count
+      go None within is = absurd within
+      go (Some held) within is = at_value (value_of contents held.handle.id) within is
 
 -- a segment that is held, with its value
 pub record IsHeldAt (contents : Contents (Segment Pool)) (memory : MemoryState) (number : ℕ) (found : Segment Pool) :
@@ -84,7 +108,6 @@ module _ (memory : MemoryState) (view : View) (old new : Contents (Segment Pool)
           value_of new held.handle.id ≡ value_of old held.handle.id
       at_slot None e fits held there = absurd fits
       at_slot (Some one) e fits held there =
-          let away = together.memory_sound.apart other number held one apart there e in
           ap (λ c. value_of c held.handle.id)
           (written ∙ ap (λ id. with_written segment.with_bytes old id place bytes) (ap id_in e))
           ∙ at_value (value_of old one.handle.id)

@@ -1,6 +1,5 @@
 -- A read, from what the look-ups and the view say.
-use Rattle.std.proofs.Common.{ℕ, ◌+◌, ◌-◌, ◌*◌, ◌<◌, ◌≤◌, ◌≡◌, Bool, true, false, ◌&&◌, nat_lt, List, length, take, drop, get_or, Option, Some, None, IsSome, refl, sym, ap, ◌∙◌, subst, arith}
-use Rattle.std.specs.List.{slice_get}
+use Rattle.std.proofs.Common.{ℕ, ◌+◌, ◌-◌, ◌*◌, ◌<◌, ◌≤◌, ◌≡◌, Bool, true, false, ◌&&◌, nat_lt, List, length, take, drop, get_or, Some, None, IsSome, refl, sym, ap, ◌∙◌, subst, arith}
 use Rattle.std.proofs.lemmas.Bool.{and_parts}
 use Rattle.cal_alloc.specs.PointerOffset.{offset_of, segment_of, pointer_offset}
 use Rattle.cal_alloc.specs.Pool.{Pool}
@@ -15,9 +14,8 @@ use Rattle.cal_transport.specs.declared.settings.Settings.{Settings}
 use Rattle.cal_transport.specs.declared.reply.Reply.{Reply}
 use Rattle.cal_transport.specs.declared.reply.Reply.TheVariants.{Shown, Refused}
 use Rattle.cal_transport.specs.declared.reply.Refusal.TheVariants as refusal
-use Rattle.cal_transport.specs.declared.ported.chunk_entry.ChunkEntry.{ChunkEntry}
 use Rattle.cal_transport.specs.declared.ported.chunk_entry.Found.{Found}
-use Rattle.cal_transport.specs.Ledger.{Ledger, Chunk, layout_at, is_borrowed}
+use Rattle.cal_transport.specs.Ledger.{Ledger, is_borrowed}
 use Rattle.cal_transport.specs.ChunkEntry.{HasNoEntry, IsFound}
 use Rattle.cal_transport.specs.Pointed.{HasPlace}
 use Rattle.cal_transport.specs.Shown.{bytes_at, pointer_to}
@@ -26,7 +24,7 @@ use Rattle.cal_transport.proofs.Settled.{settled}
 use Rattle.cal_transport.proofs.Represented.{IsPlaceless, stands}
 use Rattle.cal_transport.proofs.Stands.{HasHistory, has_history, Steps}
 use Rattle.cal_transport.proofs.Finding.{IsChunk, found_chunk, found_none}
-use Rattle.cal_transport.proofs.Lent.{unknown_unborrowed, found_tells}
+use Rattle.cal_transport.proofs.Lent.{found_tells}
 use Rattle.cal_transport.proofs.ReadStep.{read_outside, read_unnamed, read_unborrowed, read_past, reads}
 use Rattle.cal_transport.proofs.ReleaseCode.{registered, pointer_by}
 use Rattle.cal_transport.proofs.Housed.{HousesChunk, houses, houses_entry, house_held, house_place, house_pointer, house_payload, transit_lives_on, some_counted}
@@ -130,25 +128,33 @@ module _ (t : TransportState) (linked : IsLinked t) (k name at len : ℕ) where
                 house_payload t l (of l r).chunk found.entry.segment found.entry.bucket (read_house l r) pointer 0 size
                 (tells_place l r).0 (omega arith) (omega arith)
 
-            pub read_does : (whole : List ℕ) → ((s : Segment Pool) →
+            -- the bytes that the view gives
+            module _ (whole : List ℕ) (whole_is : (s : Segment Pool) →
                 segment_value t.memory_registry t.memory.slots (segment_of pointer) ≡ Some s →
-                whole ≡ bytes_at s.payload (offset_of pointer) size) → at + len ≤ size →
-                DoesAnywhere t (command.Read k name at len) (Shown (take (at + len - at) (drop at whole))) t
-            read_does whole whole_is within = does (Shown (take (at + len - at) (drop at whole))) (λ l r any.
-                reads (core_of t) l any k name at len (has l r).history (of l r).chunk
-                (take (at + len - at) (drop at whole)) r.shows r.tracks (inside_l l r) (has l r).on (of l r).named
-                (sym (tells l r) ∙ lent) (subst (λ n. at + len ≤ n) (house_size l r ∙ (read_house l r).size) within)
-                (ap (λ n. take n (drop at whole)) (let e : at + len - at ≡ len = omega arith in e)
-                ∙ ap (λ m. take len (drop at m)) (whole_bytes l r)))
-              where
-                whole_bytes : (l : Ledger) (r : Represents t l) → whole ≡ (of l r).chunk.bytes
-                whole_bytes l r =
-                    whole_is (read_house l r).segment
-                    (ap (segment_value t.memory_registry t.memory.slots) (tells_place l r).0 ∙ (read_house l r).there)
-                    ∙ ap (λ n. bytes_at (read_house l r).segment.payload n size) (tells_place l r).1
-                    ∙ ap (bytes_at (read_house l r).segment.payload
-                    (found.entry.bucket * (read_house l r).segment.allocator.buckets.size)) (house_size l r)
-                    ∙ (read_house l r).bytes
+                whole ≡ bytes_at s.payload (offset_of pointer) size) where
+              whole_bytes : (l : Ledger) (r : Represents t l) → whole ≡ (of l r).chunk.bytes
+              whole_bytes l r =
+                  whole_is (read_house l r).segment
+                  (ap (segment_value t.memory_registry t.memory.slots) (tells_place l r).0 ∙ (read_house l r).there)
+                  ∙ ap (λ n. bytes_at (read_house l r).segment.payload n size) (tells_place l r).1
+                  ∙ ap (bytes_at (read_house l r).segment.payload
+                  (found.entry.bucket * (read_house l r).segment.allocator.buckets.size)) (house_size l r)
+                  ∙ (read_house l r).bytes
+
+              pub read_long : (l : Ledger) (r : Represents t l) → length whole ≡ size
+              read_long l r =
+                  ap length (whole_bytes l r)
+                  ∙ ((settled l r.place r.sound).within found.index (of l r).chunk (of l r).stands).bytes
+                  ∙ sym (house_size l r ∙ (read_house l r).size)
+
+              pub read_does : at + len ≤ size →
+                  DoesAnywhere t (command.Read k name at len) (Shown (take (at + len - at) (drop at whole))) t
+              read_does within = does (Shown (take (at + len - at) (drop at whole))) (λ l r any.
+                  reads (core_of t) l any k name at len (has l r).history (of l r).chunk
+                  (take (at + len - at) (drop at whole)) r.shows r.tracks (inside_l l r) (has l r).on (of l r).named
+                  (sym (tells l r) ∙ lent) (subst (λ n. at + len ≤ n) (house_size l r ∙ (read_house l r).size) within)
+                  (ap (λ n. take n (drop at whole)) (let e : at + len - at ≡ len = omega arith in e)
+                  ∙ ap (λ m. take len (drop at m)) (whole_bytes l r)))
 
         pub read_past_does : (size : ℕ) → ((s : Segment Pool) →
             segment_value t.memory_registry t.memory.slots found.entry.segment ≡ Some s →

@@ -1,9 +1,8 @@
 -- A write, from what the look-ups and the call on the segment's bytes say.
 use Rattle.std.proofs.Common.{ℕ, ◌+◌, ◌*◌, ◌<◌, ◌≤◌, ◌≡◌, ◌≢◌, true, false, List, [], ◌∷◌, length, Option, Some, None, IsSome, refl, sym, ap, ◌∙◌, subst, arith}
-use Rattle.std.specs.List.{slice_get}
 use Rattle.std.proofs.lemmas.Option.{same_Some, none-some}
 use Rattle.cal_alloc.specs.Limits.{max_memory_size}
-use Rattle.cal_alloc.specs.PointerOffset.{offset_of, segment_of, pointer_offset}
+use Rattle.cal_alloc.specs.PointerOffset.{offset_of, segment_of}
 use Rattle.cal_alloc.specs.Pool.{Pool}
 use Rattle.cal_storage.specs.Contents.{Contents}
 use Rattle.cal_shm.specs.Calls.{IsInPayload}
@@ -17,14 +16,14 @@ use Rattle.cal_transport.specs.declared.reply.Reply.TheVariants.{Written, Refuse
 use Rattle.cal_transport.specs.declared.reply.Refusal.TheVariants as refusal
 use Rattle.cal_transport.specs.declared.ported.chunk_entry.ChunkEntry.{ChunkEntry}
 use Rattle.cal_transport.specs.declared.ported.chunk_entry.Found.{Found}
-use Rattle.cal_transport.specs.Ledger.{Ledger, Chunk, layout_at, loaned_chunk}
+use Rattle.cal_transport.specs.Ledger.{Ledger, layout_at, loaned_chunk}
 use Rattle.cal_transport.specs.Cause.{write_cause}
 use Rattle.cal_transport.specs.ChunkEntry.{HasNoEntry, IsFound}
 use Rattle.cal_transport.specs.Core.{ActiveSegment}
 use Rattle.cal_transport.specs.Putting.{PutsBytes}
 use Rattle.cal_transport.specs.State.{TransportState, active_of, core_of, IsLinked, Represents, DoesAnywhere}
 use Rattle.cal_transport.specs.Step.{with_bytes}
-use Rattle.cal_transport.proofs.Settled.{IsSettled, settled}
+use Rattle.cal_transport.proofs.Settled.{settled}
 use Rattle.cal_transport.proofs.Represented.{IsPlaceless, stands}
 use Rattle.cal_transport.proofs.Stands.{HasHistory, has_history, Steps}
 use Rattle.cal_transport.proofs.Finding.{IsChunk, found_chunk, found_none, loaned_is, unloaned_is, unnamed_is}

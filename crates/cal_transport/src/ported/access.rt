@@ -1,9 +1,9 @@
 //! What a transport tells of its parts and of a chunk.
 
-ghost use Rattle.std.specs.Prelude.{◌≡◌};
+ghost use Rattle.std.specs.Prelude.{◌≡◌, ◌||◌, nat_lt};
 ghost use Rattle.cal_transport.specs.ChunkTold.{TellsChunk};
 
-use crate::ported::chunk_entry::find_entry;
+use crate::ported::chunk_entry::{ChunkEntry, find_entry};
 use crate::ported::parts::{
     ConnectionRegistry, MemoryRegistry, TransportMemory, TransportReceiver, TransportSender,
     TransportView,
@@ -68,7 +68,6 @@ impl Transport {
     }
 
     /// What is known of the chunk of that name, where it is loaned or in transit.
-    #[tactic(none)]
     pub fn chunk(&self, chunk: usize) -> Option<ChunkRecord>
         ensures told { TellsChunk self.now chunk result }
     {
@@ -76,16 +75,23 @@ impl Transport {
             Some(found) => found,
             None => return None,
         };
-        let entry = found.entry;
-        if !entry.loaned && entry.transits == 0 {
+        if !lives(found.entry) {
             return None;
         }
-        let size = size_at(&self.memory, &self.memory_registry, entry.segment);
+        let size = size_at(&self.memory, &self.memory_registry, found.entry.segment);
+        let place = found.entry.bucket * size;
         Some(ChunkRecord {
-            segment: entry.segment,
-            place: entry.bucket * size,
-            loaned: entry.loaned,
-            sent: entry.sent,
+            segment: found.entry.segment,
+            place,
+            loaned: found.entry.loaned,
+            sent: found.entry.sent,
         })
     }
+}
+
+/// Whether the chunk of an entry lives: it is loaned, or in transit on some channel.
+fn lives(entry: ChunkEntry) -> bool
+    ensures lives { result ≡ (entry.loaned || nat_lt 0 entry.transits) }
+{
+    entry.loaned || entry.transits > 0
 }

@@ -24,7 +24,6 @@ use cal_resizable::together_laws::an_arrival_of_what_is_out_is_not_refused;
 impl Transport {
     /// The bytes of a chunk that is borrowed from a channel, from a place in the chunk on: the view's own. Takes no
     /// memory. The refusals are `OutsideConnection`, then `NotBorrowed`, then `OutsideChunk`.
-    #[tactic(none)]
     pub fn read(
         &self,
         channel: usize,
@@ -66,7 +65,6 @@ impl Transport {
 }
 
 /// The bytes of a segment that the view has mapped, from a pointer on: they are the memory's.
-#[tactic(none)]
 fn viewed_bytes<'r>(
     memory: &TransportMemory,
     view: &TransportView,

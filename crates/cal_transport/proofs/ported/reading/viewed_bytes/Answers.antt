@@ -4,7 +4,6 @@ use Rattle.cal_alloc.specs.Pool.{Pool}
 use Rattle.cal_alloc.specs.PointerOffset.{offset_of, segment_of}
 use Rattle.cal_shm.specs.Calls.{IsInPayload}
 use Rattle.cal_shm.specs.Segment.{Segment}
-use Rattle.cal_transport.specs.Shown.{bytes_at}
 use Rattle.cal_transport.proofs.Viewed.{held_active, viewed, viewed_back}
 use Rattle.cal_transport.proofs.ported.reading.viewed_bytes.Goals as goal
 

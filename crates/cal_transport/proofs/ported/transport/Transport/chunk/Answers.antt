@@ -1,10 +1,9 @@
-use Rattle.std.proofs.Common.{◌≡◌, ◌∙◌, ◌*◌, nat_lt, ◌||◌, true, false, Some, None, sym, ap, subst, arith}
-use Rattle.std.proofs.lemmas.Bool.Decides.{nat_tests}
+use Rattle.std.proofs.Common.{◌*◌, ◌∙◌, Some, None, sym, subst, arith}
 use Rattle.cal_transport.specs.ChunkEntry.{AreRising, HasNoEntry, IsFound}
 use Rattle.cal_transport.specs.ChunkTold.{TellsChunk}
 use Rattle.cal_transport.specs.State.{core_of}
 use Rattle.cal_transport.specs.StateOf.{state_of}
-use Rattle.cal_transport.proofs.AccessCode.{told_unknown, told_dead, told_held, told_small, told_live, neither_one, one_of_both}
+use Rattle.cal_transport.proofs.AccessCode.{told_unknown, told_dead, told_held, told_small, told_live}
 use Rattle.cal_transport.proofs.Finding.{entries_rise}
 use Rattle.cal_transport.proofs.ported.transport.Transport.chunk.Goals as goal
 
@@ -22,5 +21,41 @@ returns-in-None c = record {
       (subst (λ es. HasNoEntry es c.args.chunk) c.deref.ensures.value c.in-None.ensures.found));
 }
 
+pub returns-then-not-lives : goal.returns-then-not-lives
+returns-then-not-lives c =
+    let is = subst (λ es. IsFound es c.args.chunk c.in-Some.found) c.deref.ensures.value c.in-Some.ensures.found in
+    record {
+      told = subst (λ t. TellsChunk t c.args.chunk None) c.self.view_is
+          (told_dead (state_of c.self.inside) c.args.chunk c.in-Some.found is
+          (sym c.lives.ensures.lives ∙ c.if-not-lives.true));
+    }
+
+pub size_at-size-requires-clause-has : goal.size_at-size-requires-clause-has
+size_at-size-requires-clause-has c = c.self.invariant.linked.together.has_memory
+
+pub size_at-size-requires-clause-active : goal.size_at-size-requires-clause-active
+size_at-size-requires-clause-active c =
+    let is = subst (λ es. IsFound es c.args.chunk c.in-Some.found) c.deref.ensures.value c.in-Some.ensures.found in
+    told_held (state_of c.self.inside) c.args.chunk c.in-Some.found is
+    (sym c.lives.ensures.lives ∙ c.if-not-lives.false) c.self.invariant.ledger c.self.invariant.represents
+
+pub overflow_mul-place : goal.overflow_mul-place
+overflow_mul-place c =
+    let is = subst (λ es. IsFound es c.args.chunk c.in-Some.found) c.deref.ensures.value c.in-Some.ensures.found in
+    let small = told_small (state_of c.self.inside) c.args.chunk c.in-Some.found is
+    (sym c.lives.ensures.lives ∙ c.if-not-lives.false) c.self.invariant.ledger c.self.invariant.represents
+    c.size_at-size.result c.size_at-size.ensures.size in omega arith
+
 pub returns : goal.returns
-returns c = ?
+returns c =
+    let is = subst (λ es. IsFound es c.args.chunk c.in-Some.found) c.deref.ensures.value c.in-Some.ensures.found in
+    record {
+      told = subst (λ t. TellsChunk t c.args.chunk (Some (record {
+        segment = c.in-Some.found.entry.segment;
+        place = c.in-Some.found.entry.bucket * c.size_at-size.result;
+        loaned = c.in-Some.found.entry.loaned;
+        sent = c.in-Some.found.entry.sent;
+      }))) c.self.view_is
+          (told_live (state_of c.self.inside) c.args.chunk c.in-Some.found is
+          (sym c.lives.ensures.lives ∙ c.if-not-lives.false) c.size_at-size.result c.size_at-size.ensures.size);
+    }

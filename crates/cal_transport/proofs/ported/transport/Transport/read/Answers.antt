@@ -1,15 +1,14 @@
-use Rattle.std.proofs.Common.{ℕ, ◌≡◌, ◌<◌, ◌≤◌, ◌∙◌, ◌*◌, ◌+◌, ◌-◌, ◌&&◌, nat_lt, take, drop, Some, IsSome, get_or, sym, ap, subst, arith}
+use Rattle.std.proofs.Common.{◌≡◌, ◌<◌, ◌≤◌, ◌∙◌, ◌*◌, ◌+◌, ◌-◌, ◌&&◌, nat_lt, length, take, drop, get_or, sym, ap, subst, arith}
 use Rattle.std.proofs.lemmas.Bool.{ltb-true, ltb-false}
-use Rattle.cal_alloc.specs.PointerOffset.{segment_of}
 use Rattle.cal_queue.specs.UsedChunks.{contains, capacity_of, none_used}
 use Rattle.cal_transport.specs.declared.command.Command.TheVariants as command
 use Rattle.cal_transport.specs.declared.reply.Reply.TheVariants.{Shown, Refused}
 use Rattle.cal_transport.specs.declared.reply.Refusal.TheVariants as refusal
 use Rattle.cal_transport.specs.ChunkEntry.{AreRising, HasNoEntry, IsFound}
-use Rattle.cal_transport.specs.State.{TransportState, core_of, Represents, IsLinked, DoesAnywhere}
+use Rattle.cal_transport.specs.State.{core_of, DoesAnywhere}
 use Rattle.cal_transport.specs.StateOf.{state_of}
 use Rattle.cal_transport.proofs.Finding.{entries_rise}
-use Rattle.cal_transport.proofs.ReadCode.{read_outside_does, read_unknown_does, read_unlent_does, read_held, read_place, read_mapped, read_payload, read_does, read_past_does}
+use Rattle.cal_transport.proofs.ReadCode.{read_outside_does, read_unknown_does, read_unlent_does, read_held, read_place, read_mapped, read_payload, read_long, read_does, read_past_does}
 use Rattle.cal_transport.proofs.ReleaseCode.{marks_many, transit_mark}
 use Rattle.cal_transport.proofs.ported.transport.Transport.read.Goals as goal
 
@@ -36,6 +35,10 @@ returns-in-None c = record {
       c.args.length c.if-channel-self.false
       (subst (λ es. HasNoEntry es c.args.chunk) c.deref.ensures.value c.in-None.ensures.found));
 }
+
+pub is_lent-requires-clause-channel : goal.is_lent-requires-clause-channel
+is_lent-requires-clause-channel c =
+    omega (arith, ap length c.deref-2.ensures.value, c.self.invariant.linked.lent, c.if-channel-self.false)
 
 pub is_lent-requires-clause-mark : goal.is_lent-requires-clause-mark
 is_lent-requires-clause-mark c =
@@ -73,6 +76,9 @@ returns-then-not-is_lent c =
           c.args.length c.if-channel-self.false c.in-Some.found is (sym told ∙ c.if-not-is_lent.true));
     }
 
+pub size_at-size-requires-clause-has : goal.size_at-size-requires-clause-has
+size_at-size-requires-clause-has c = c.self.invariant.linked.together.has_memory
+
 pub size_at-size-requires-clause-active : goal.size_at-size-requires-clause-active
 size_at-size-requires-clause-active c =
     let is = subst (λ es. IsFound es c.args.chunk c.in-Some.found) c.deref.ensures.value c.in-Some.ensures.found in
@@ -98,8 +104,11 @@ returns-then-exceeds_bucket c =
           c.args.at c.args.length c.if-channel-self.false c.in-Some.found is lent
           c.size_at-size.result c.size_at-size.ensures.size
           (ltb-true c.size_at-size.result (c.args.at + c.args.length)
-          (sym c.exceeds_bucket.ensures.passes ∙ c.if-exceeds_bucket.true)));
+          (sym c.if-exceeds_bucket.ensures.passes)));
     }
+
+pub pointer_at-pointer-requires-clause-has : goal.pointer_at-pointer-requires-clause-has
+pointer_at-pointer-requires-clause-has c = c.self.invariant.linked.together.has_memory
 
 pub pointer_at-pointer-requires-clause-place : goal.pointer_at-pointer-requires-clause-place
 pointer_at-pointer-requires-clause-place c =
@@ -111,6 +120,9 @@ pointer_at-pointer-requires-clause-place c =
     read_place (state_of c.self.inside) c.self.invariant.linked c.args.channel c.args.chunk
     c.args.at c.args.length c.if-channel-self.false c.in-Some.found is lent
     c.self.invariant.ledger c.self.invariant.represents
+
+pub viewed_bytes-bytes-requires-clause-together : goal.viewed_bytes-bytes-requires-clause-together
+viewed_bytes-bytes-requires-clause-together c = c.self.invariant.linked.together
 
 pub viewed_bytes-bytes-requires-clause-mapped : goal.viewed_bytes-bytes-requires-clause-mapped
 viewed_bytes-bytes-requires-clause-mapped c =
@@ -136,6 +148,29 @@ viewed_bytes-bytes-requires-clause-within c =
     c.pointer_at-pointer.result c.pointer_at-pointer.ensures.pointer c.size_at-size.result c.size_at-size.ensures.size
     c.self.invariant.ledger c.self.invariant.represents
 
+pub overflow_add-result : goal.overflow_add-result
+overflow_add-result c =
+    let within = ltb-false c.size_at-size.result (c.args.at + c.args.length) (sym c.if-exceeds_bucket.ensures.passes) in
+    omega arith
+
+pub slice_bounds-result-count : goal.slice_bounds-result-count
+slice_bounds-result-count c = omega arith
+
+pub slice_bounds-result-end : goal.slice_bounds-result-end
+slice_bounds-result-end c =
+    let is = subst (λ es. IsFound es c.args.chunk c.in-Some.found) c.deref.ensures.value c.in-Some.ensures.found in
+    let told = subst (λ us. c.is_lent.result ≡ (nat_lt 0 c.in-Some.found.entry.transits
+    && contains (get_or us c.args.channel (none_used 0)) (c.in-Some.found.entry.segment * c.self.inside.settings.samples
+    + c.in-Some.found.entry.bucket))) c.deref-2.ensures.value c.is_lent.ensures.lent in
+    let lent = sym told ∙ c.if-not-is_lent.false in
+    let within = ltb-false c.size_at-size.result (c.args.at + c.args.length) (sym c.if-exceeds_bucket.ensures.passes) in
+    let long = read_long (state_of c.self.inside) c.self.invariant.linked c.args.channel c.args.chunk
+    c.args.at c.args.length c.if-channel-self.false c.in-Some.found is lent
+    c.pointer_at-pointer.result c.pointer_at-pointer.ensures.pointer c.size_at-size.result
+    c.size_at-size.ensures.size c.viewed_bytes-bytes.result.now c.viewed_bytes-bytes.ensures.bytes
+    c.self.invariant.ledger c.self.invariant.represents in
+    omega arith
+
 pub returns : goal.returns
 returns c =
     let is = subst (λ es. IsFound es c.args.chunk c.in-Some.found) c.deref.ensures.value c.in-Some.ensures.found in
@@ -152,5 +187,5 @@ returns c =
           c.pointer_at-pointer.result c.pointer_at-pointer.ensures.pointer c.size_at-size.result
           c.size_at-size.ensures.size c.viewed_bytes-bytes.result.now c.viewed_bytes-bytes.ensures.bytes
           (ltb-false c.size_at-size.result (c.args.at + c.args.length)
-          (sym c.exceeds_bucket.ensures.passes ∙ c.if-exceeds_bucket.false)));
+          (sym c.if-exceeds_bucket.ensures.passes)));
     }

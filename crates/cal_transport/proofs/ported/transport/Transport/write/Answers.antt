@@ -1,13 +1,13 @@
-use Rattle.std.proofs.Common.{ℕ, ◌≡◌, ◌<◌, ◌≤◌, ◌∙◌, ◌*◌, ◌+◌, nat_lt, length, Some, IsSome, sym, ap, subst, arith}
-use Rattle.std.proofs.lemmas.Bool.{ltb-true, ltb-false}
-use Rattle.cal_alloc.specs.PointerOffset.{segment_of, offset_of}
+use Rattle.std.proofs.Common.{◌∙◌, ◌+◌, length, sym, subst, arith}
+use Rattle.std.proofs.lemmas.Bool.{ltb-true, ltb-false, eqb-true, eqb-false}
 use Rattle.cal_transport.specs.declared.command.Command.TheVariants as command
 use Rattle.cal_transport.specs.declared.reply.Reply.TheVariants.{Written, Refused}
 use Rattle.cal_transport.specs.declared.reply.Refusal.TheVariants as refusal
 use Rattle.cal_transport.specs.ChunkEntry.{AreRising, HasNoEntry, IsFound}
-use Rattle.cal_transport.specs.State.{TransportState, core_of, Represents, IsLinked, DoesAnywhere}
+use Rattle.cal_transport.specs.State.{core_of, DoesAnywhere}
 use Rattle.cal_transport.specs.StateOf.{state_of}
 use Rattle.cal_transport.specs.Step.{after_step}
+use Rattle.cal_transport.proofs.Changing.{not_true, not_false}
 use Rattle.cal_transport.proofs.Finding.{entries_rise}
 use Rattle.cal_transport.proofs.WriteCode.{write_unknown_does, write_ended_does, write_sent_does, write_held, write_outside_does, write_none_does, write_place, write_payload, written_linked, written_does}
 use Rattle.cal_transport.proofs.ported.transport.Transport.write.Goals as goal
@@ -19,100 +19,105 @@ find_entry-requires c = record {
       c.self.invariant.represents.shows c.self.invariant.represents.sound.names);
 }
 
-pub returns-in-None : goal.returns-in-None
-returns-in-None c =
-    record {
-      step = subst (λ t. DoesAnywhere t (command.Write c.args.chunk c.args.at c.args.bytes.now) (Refused refusal.NotLoaned) t)
-          c.self.view_is
-          (write_unknown_does (state_of c.self.inside) c.args.chunk c.args.at c.args.bytes.now (subst (λ es. HasNoEntry es c.args.chunk) c.deref.ensures.value c.in-None.ensures.found));
-      room = record { spare = omega arith; in_transit = omega arith };
-    }
+pub returns-in-None-clause-step : goal.returns-in-None-clause-step
+returns-in-None-clause-step c =
+    subst (λ t. DoesAnywhere t (command.Write c.args.chunk c.args.at c.args.bytes.now) (Refused refusal.NotLoaned) t) c.self.view_is
+    (write_unknown_does (state_of c.self.inside) c.args.chunk c.args.at c.args.bytes.now
+    (subst (λ es. HasNoEntry es c.args.chunk) c.deref.ensures.value c.in-None.ensures.found))
 
-pub returns-then-not-loaned : goal.returns-then-not-loaned
-returns-then-not-loaned c =
+pub returns-then-not-found-clause-step : goal.returns-then-not-found-clause-step
+returns-then-not-found-clause-step c =
     let is = subst (λ es. IsFound es c.args.chunk c.in-Some.found) c.deref.ensures.value c.in-Some.ensures.found in
-    record {
-      step = subst (λ t. DoesAnywhere t (command.Write c.args.chunk c.args.at c.args.bytes.now) (Refused refusal.NotLoaned) t)
-          c.self.view_is
-          (write_ended_does (state_of c.self.inside) c.args.chunk c.args.at c.args.bytes.now c.in-Some.found is c.if-not-loaned.true);
-      room = record { spare = omega arith; in_transit = omega arith };
-    }
+    subst (λ t. DoesAnywhere t (command.Write c.args.chunk c.args.at c.args.bytes.now) (Refused refusal.NotLoaned) t) c.self.view_is
+    (write_ended_does (state_of c.self.inside) c.args.chunk c.args.at c.args.bytes.now c.in-Some.found is
+    (not_true c.in-Some.found.entry.loaned c.if-not-found.true))
 
-pub returns-then-sent : goal.returns-then-sent
-returns-then-sent c =
+pub returns-then-found-clause-step : goal.returns-then-found-clause-step
+returns-then-found-clause-step c =
     let is = subst (λ es. IsFound es c.args.chunk c.in-Some.found) c.deref.ensures.value c.in-Some.ensures.found in
-    record {
-      step = subst (λ t. DoesAnywhere t (command.Write c.args.chunk c.args.at c.args.bytes.now) (Refused refusal.WriteAfterSend) t)
-          c.self.view_is
-          (write_sent_does (state_of c.self.inside) c.args.chunk c.args.at c.args.bytes.now c.in-Some.found is c.if-not-loaned.false c.if-sent.true);
-      room = record { spare = omega arith; in_transit = omega arith };
-    }
+    let loaned = not_false c.in-Some.found.entry.loaned c.if-not-found.false in
+    subst (λ t. DoesAnywhere t (command.Write c.args.chunk c.args.at c.args.bytes.now) (Refused refusal.WriteAfterSend) t) c.self.view_is
+    (write_sent_does (state_of c.self.inside) c.args.chunk c.args.at c.args.bytes.now c.in-Some.found is loaned
+    c.if-found.true)
+
+pub size_at-size-requires-clause-has : goal.size_at-size-requires-clause-has
+size_at-size-requires-clause-has c = c.self.invariant.linked.together.has_memory
 
 pub size_at-size-requires-clause-active : goal.size_at-size-requires-clause-active
 size_at-size-requires-clause-active c =
     let is = subst (λ es. IsFound es c.args.chunk c.in-Some.found) c.deref.ensures.value c.in-Some.ensures.found in
-    write_held (state_of c.self.inside) c.args.chunk c.args.at c.args.bytes.now c.in-Some.found is c.if-not-loaned.false
+    let loaned = not_false c.in-Some.found.entry.loaned c.if-not-found.false in
+    write_held (state_of c.self.inside) c.args.chunk c.args.at c.args.bytes.now c.in-Some.found is loaned
     c.self.invariant.ledger c.self.invariant.represents
 
-pub returns-then-exceeds_bucket : goal.returns-then-exceeds_bucket
-returns-then-exceeds_bucket c =
+pub returns-then-exceeds_bucket-clause-step : goal.returns-then-exceeds_bucket-clause-step
+returns-then-exceeds_bucket-clause-step c =
     let is = subst (λ es. IsFound es c.args.chunk c.in-Some.found) c.deref.ensures.value c.in-Some.ensures.found in
-    record {
-      step = subst (λ t. DoesAnywhere t (command.Write c.args.chunk c.args.at c.args.bytes.now) (Refused refusal.OutsideChunk) t)
-          c.self.view_is
-          (write_outside_does (state_of c.self.inside) c.args.chunk c.args.at c.args.bytes.now c.in-Some.found is c.if-not-loaned.false c.if-sent.false c.size_at-size.result c.size_at-size.ensures.size (ltb-true c.size_at-size.result (c.args.at + length c.args.bytes.now) (sym c.exceeds_bucket.ensures.passes ∙ c.if-exceeds_bucket.true)));
-      room = record { spare = omega arith; in_transit = omega arith };
-    }
+    let loaned = not_false c.in-Some.found.entry.loaned c.if-not-found.false in
+    let past = ltb-true c.size_at-size.result (c.args.at + length c.args.bytes.now)
+    (sym c.if-exceeds_bucket.ensures.passes) in
+    subst (λ t. DoesAnywhere t (command.Write c.args.chunk c.args.at c.args.bytes.now) (Refused refusal.OutsideChunk) t) c.self.view_is
+    (write_outside_does (state_of c.self.inside) c.args.chunk c.args.at c.args.bytes.now c.in-Some.found is loaned
+    c.if-found.false c.size_at-size.result c.size_at-size.ensures.size past)
 
-pub returns-then-is_empty : goal.returns-then-is_empty
-returns-then-is_empty c =
+pub returns-then-is_empty-clause-step : goal.returns-then-is_empty-clause-step
+returns-then-is_empty-clause-step c =
     let is = subst (λ es. IsFound es c.args.chunk c.in-Some.found) c.deref.ensures.value c.in-Some.ensures.found in
+    let loaned = not_false c.in-Some.found.entry.loaned c.if-not-found.false in
     let within = ltb-false c.size_at-size.result (c.args.at + length c.args.bytes.now)
-    (sym c.exceeds_bucket.ensures.passes ∙ c.if-exceeds_bucket.false) in
-    record {
-      step = subst (λ t. DoesAnywhere t (command.Write c.args.chunk c.args.at c.args.bytes.now) Written t)
-          c.self.view_is
-          (write_none_does (state_of c.self.inside) c.args.chunk c.args.at c.args.bytes.now c.in-Some.found is
-          c.if-not-loaned.false c.if-sent.false c.size_at-size.result c.size_at-size.ensures.size within (omega arith));
-      room = record { spare = omega arith; in_transit = omega arith };
-    }
+    (sym c.if-exceeds_bucket.ensures.passes) in
+    subst (λ t. DoesAnywhere t (command.Write c.args.chunk c.args.at c.args.bytes.now) Written t) c.self.view_is
+    (write_none_does (state_of c.self.inside) c.args.chunk c.args.at c.args.bytes.now c.in-Some.found is loaned
+    c.if-found.false c.size_at-size.result c.size_at-size.ensures.size within (eqb-true (length c.args.bytes.now) 0 (sym c.if-is_empty.ensures)))
 
 pub overflow_mul-place : goal.overflow_mul-place
 overflow_mul-place c =
     let is = subst (λ es. IsFound es c.args.chunk c.in-Some.found) c.deref.ensures.value c.in-Some.ensures.found in
+    let loaned = not_false c.in-Some.found.entry.loaned c.if-not-found.false in
     let within = ltb-false c.size_at-size.result (c.args.at + length c.args.bytes.now)
-    (sym c.exceeds_bucket.ensures.passes ∙ c.if-exceeds_bucket.false) in
-    let small = write_place (state_of c.self.inside) c.args.chunk c.args.at c.args.bytes.now c.in-Some.found is
-    c.if-not-loaned.false c.if-sent.false c.size_at-size.result c.size_at-size.ensures.size within
-    c.self.invariant.ledger c.self.invariant.represents (omega arith) in omega arith
+    (sym c.if-exceeds_bucket.ensures.passes) in
+    let small = write_place (state_of c.self.inside) c.args.chunk c.args.at c.args.bytes.now c.in-Some.found is loaned
+    c.if-found.false c.size_at-size.result c.size_at-size.ensures.size within
+    c.self.invariant.ledger c.self.invariant.represents
+    (eqb-false (length c.args.bytes.now) 0 (sym c.if-is_empty.ensures)) in
+    omega arith
 
 pub overflow_add-place : goal.overflow_add-place
 overflow_add-place c =
     let is = subst (λ es. IsFound es c.args.chunk c.in-Some.found) c.deref.ensures.value c.in-Some.ensures.found in
+    let loaned = not_false c.in-Some.found.entry.loaned c.if-not-found.false in
     let within = ltb-false c.size_at-size.result (c.args.at + length c.args.bytes.now)
-    (sym c.exceeds_bucket.ensures.passes ∙ c.if-exceeds_bucket.false) in
-    let small = write_place (state_of c.self.inside) c.args.chunk c.args.at c.args.bytes.now c.in-Some.found is
-    c.if-not-loaned.false c.if-sent.false c.size_at-size.result c.size_at-size.ensures.size within
-    c.self.invariant.ledger c.self.invariant.represents (omega arith) in omega arith
+    (sym c.if-exceeds_bucket.ensures.passes) in
+    let small = write_place (state_of c.self.inside) c.args.chunk c.args.at c.args.bytes.now c.in-Some.found is loaned
+    c.if-found.false c.size_at-size.result c.size_at-size.ensures.size within
+    c.self.invariant.ledger c.self.invariant.represents
+    (eqb-false (length c.args.bytes.now) 0 (sym c.if-is_empty.ensures)) in
+    omega arith
 
 pub from_offset_and_segment_id-pointer-requires : goal.from_offset_and_segment_id-pointer-requires
 from_offset_and_segment_id-pointer-requires c =
     let is = subst (λ es. IsFound es c.args.chunk c.in-Some.found) c.deref.ensures.value c.in-Some.ensures.found in
+    let loaned = not_false c.in-Some.found.entry.loaned c.if-not-found.false in
     let within = ltb-false c.size_at-size.result (c.args.at + length c.args.bytes.now)
-    (sym c.exceeds_bucket.ensures.passes ∙ c.if-exceeds_bucket.false) in
+    (sym c.if-exceeds_bucket.ensures.passes) in
     record {
-      below = write_place (state_of c.self.inside) c.args.chunk c.args.at c.args.bytes.now c.in-Some.found is
-          c.if-not-loaned.false c.if-sent.false c.size_at-size.result c.size_at-size.ensures.size within
-          c.self.invariant.ledger c.self.invariant.represents (omega arith);
+      below = write_place (state_of c.self.inside) c.args.chunk c.args.at c.args.bytes.now c.in-Some.found is loaned
+          c.if-found.false c.size_at-size.result c.size_at-size.ensures.size within
+          c.self.invariant.ledger c.self.invariant.represents
+          (eqb-false (length c.args.bytes.now) 0 (sym c.if-is_empty.ensures));
     }
+
+pub put_bytes-requires-clause-together : goal.put_bytes-requires-clause-together
+put_bytes-requires-clause-together c = c.self.invariant.linked.together
 
 pub put_bytes-requires-clause-within : goal.put_bytes-requires-clause-within
 put_bytes-requires-clause-within c =
     let is = subst (λ es. IsFound es c.args.chunk c.in-Some.found) c.deref.ensures.value c.in-Some.ensures.found in
+    let loaned = not_false c.in-Some.found.entry.loaned c.if-not-found.false in
     let within = ltb-false c.size_at-size.result (c.args.at + length c.args.bytes.now)
-    (sym c.exceeds_bucket.ensures.passes ∙ c.if-exceeds_bucket.false) in
-    write_payload (state_of c.self.inside) c.args.chunk c.args.at c.args.bytes.now c.in-Some.found is
-    c.if-not-loaned.false c.if-sent.false c.size_at-size.result c.size_at-size.ensures.size within
+    (sym c.if-exceeds_bucket.ensures.passes) in
+    write_payload (state_of c.self.inside) c.args.chunk c.args.at c.args.bytes.now c.in-Some.found is loaned
+    c.if-found.false c.size_at-size.result c.size_at-size.ensures.size within
     c.from_offset_and_segment_id-pointer.result
     (c.from_offset_and_segment_id-pointer.ensures.segment_back ∙ c.new.ensures.value)
     c.from_offset_and_segment_id-pointer.ensures.offset_back
@@ -121,37 +126,36 @@ put_bytes-requires-clause-within c =
 pub invariant_of-self : goal.invariant_of-self
 invariant_of-self c =
     let is = subst (λ es. IsFound es c.args.chunk c.in-Some.found) c.deref.ensures.value c.in-Some.ensures.found in
+    let loaned = not_false c.in-Some.found.entry.loaned c.if-not-found.false in
     let within = ltb-false c.size_at-size.result (c.args.at + length c.args.bytes.now)
-    (sym c.exceeds_bucket.ensures.passes ∙ c.if-exceeds_bucket.false) in
+    (sym c.if-exceeds_bucket.ensures.passes) in
     record {
       ledger = after_step c.self.invariant.ledger 0 (command.Write c.args.chunk c.args.at c.args.bytes.now) Written;
       represents = (written_does (state_of c.self.inside) c.args.chunk c.args.at c.args.bytes.now c.in-Some.found is
-          c.if-not-loaned.false c.if-sent.false c.size_at-size.result c.size_at-size.ensures.size within
+          loaned c.if-found.false c.size_at-size.result c.size_at-size.ensures.size within
           c.from_offset_and_segment_id-pointer.result
           (c.from_offset_and_segment_id-pointer.ensures.segment_back ∙ c.new.ensures.value)
           c.from_offset_and_segment_id-pointer.ensures.offset_back
           c.put_bytes.new.reg c.put_bytes.ensures.put 0 c.self.invariant.ledger c.self.invariant.represents).1;
       linked = written_linked (state_of c.self.inside) c.args.chunk c.args.at c.args.bytes.now c.in-Some.found is
-          c.if-not-loaned.false c.if-sent.false c.size_at-size.result c.size_at-size.ensures.size within
+          loaned c.if-found.false c.size_at-size.result c.size_at-size.ensures.size within
           c.from_offset_and_segment_id-pointer.result
           (c.from_offset_and_segment_id-pointer.ensures.segment_back ∙ c.new.ensures.value)
           c.from_offset_and_segment_id-pointer.ensures.offset_back
           c.put_bytes.new.reg c.put_bytes.ensures.put c.self.invariant.linked;
     }
 
-pub returns : goal.returns
-returns c =
+pub returns-clause-step : goal.returns-clause-step
+returns-clause-step c =
     let is = subst (λ es. IsFound es c.args.chunk c.in-Some.found) c.deref.ensures.value c.in-Some.ensures.found in
+    let loaned = not_false c.in-Some.found.entry.loaned c.if-not-found.false in
     let within = ltb-false c.size_at-size.result (c.args.at + length c.args.bytes.now)
-    (sym c.exceeds_bucket.ensures.passes ∙ c.if-exceeds_bucket.false) in
-    record {
-      step = subst (λ t. DoesAnywhere t (command.Write c.args.chunk c.args.at c.args.bytes.now) Written
-          (record (state_of c.self.inside) { memory_registry = c.put_bytes.new.reg })) c.self.view_is
-          (written_does (state_of c.self.inside) c.args.chunk c.args.at c.args.bytes.now c.in-Some.found is
-          c.if-not-loaned.false c.if-sent.false c.size_at-size.result c.size_at-size.ensures.size within
-          c.from_offset_and_segment_id-pointer.result
-          (c.from_offset_and_segment_id-pointer.ensures.segment_back ∙ c.new.ensures.value)
-          c.from_offset_and_segment_id-pointer.ensures.offset_back
-          c.put_bytes.new.reg c.put_bytes.ensures.put);
-      room = record { spare = omega arith; in_transit = omega arith };
-    }
+    (sym c.if-exceeds_bucket.ensures.passes) in
+    subst (λ t. DoesAnywhere t (command.Write c.args.chunk c.args.at c.args.bytes.now) Written
+    (record (state_of c.self.inside) { memory_registry = c.put_bytes.new.reg })) c.self.view_is
+    (written_does (state_of c.self.inside) c.args.chunk c.args.at c.args.bytes.now c.in-Some.found is loaned
+    c.if-found.false c.size_at-size.result c.size_at-size.ensures.size within
+    c.from_offset_and_segment_id-pointer.result
+    (c.from_offset_and_segment_id-pointer.ensures.segment_back ∙ c.new.ensures.value)
+    c.from_offset_and_segment_id-pointer.ensures.offset_back
+    c.put_bytes.new.reg c.put_bytes.ensures.put)
