@@ -1,6 +1,5 @@
 -- A discard, from what the calls on the memory and the table say.
-use Rattle.std.proofs.Common.{ℕ, ◌+◌, ◌*◌, ◌/◌, ◌<◌, ◌≡◌, true, false, ◌||◌, nat_lt, List, length, set, Option, Some, None, refl, sym, ap, ◌∙◌, subst}
-use Rattle.std.specs.List.{slice_get}
+use Rattle.std.proofs.Common.{ℕ, ◌+◌, ◌*◌, ◌/◌, ◌<◌, ◌≡◌, true, false, ◌||◌, nat_lt, List, set, Some, None, refl, sym, ap, ◌∙◌, subst}
 use Rattle.cal_alloc.specs.PointerOffset.{offset_of, segment_of, pointer_offset}
 use Rattle.cal_storage.specs.Contents.{Contents}
 use Rattle.cal_alloc.specs.Pool.{Pool, IsUsedBucket}
@@ -15,21 +14,21 @@ use Rattle.cal_transport.specs.declared.reply.Reply.TheVariants.{Discarded, Refu
 use Rattle.cal_transport.specs.declared.reply.Refusal.TheVariants as refusal
 use Rattle.cal_transport.specs.declared.ported.chunk_entry.ChunkEntry.{ChunkEntry}
 use Rattle.cal_transport.specs.declared.ported.chunk_entry.Found.{Found}
-use Rattle.cal_transport.specs.Ledger.{Ledger, Chunk, loaned_chunk, is_live}
+use Rattle.cal_transport.specs.Ledger.{Ledger, loaned_chunk, is_live}
 use Rattle.cal_transport.specs.ChunkEntry.{HasNoEntry, IsFound}
 use Rattle.cal_transport.specs.Pointed.{HasPlace}
 use Rattle.cal_transport.specs.Weights.{transits}
 use Rattle.cal_transport.specs.Sharing.{FreesUnless}
-use Rattle.cal_transport.specs.Shown.{pointer_to, entry_of}
+use Rattle.cal_transport.specs.Shown.{pointer_to}
 use Rattle.cal_transport.specs.State.{TransportState, core_of, IsLinked, Represents, DoesAnywhere}
-use Rattle.cal_transport.proofs.Settled.{IsSettled, settled}
+use Rattle.cal_transport.proofs.Settled.{settled}
 use Rattle.cal_transport.proofs.Represented.{IsPlaceless, stands}
 use Rattle.cal_transport.proofs.Changed.{live_is}
 use Rattle.cal_transport.proofs.Finding.{IsChunk, found_chunk, found_none, loaned_is, unloaned_is, unnamed_is}
 use Rattle.cal_transport.proofs.FreeCode.{is_out, is_used_bucket, freed_here, gives}
 use Rattle.cal_transport.proofs.Placed.{PlaceOf, place_of}
 use Rattle.cal_transport.proofs.Stands.{Steps}
-use Rattle.cal_transport.proofs.DiscardStep.{First, DiscardsAt, first_channel, discards, discard_refused}
+use Rattle.cal_transport.proofs.DiscardStep.{DiscardsAt, first_channel, discards, discard_refused}
 
 module _ (t : TransportState) (linked : IsLinked t) (name : ℕ) where
   placeless : (l : Ledger) (reply : Reply) → IsPlaceless l (command.Discard name) reply

@@ -1,5 +1,5 @@
 -- What gives the bucket of a live chunk back: what the call asks of the memory, and what the parts are after it.
-use Rattle.std.proofs.Common.{ℕ, ◌*◌, ◌/◌, ◌<◌, ◌≡◌, Bool, true, ◌&&◌, nat_eq, not, Option, Some, None, refl, sym, ap, ◌∙◌, subst, arith}
+use Rattle.std.proofs.Common.{ℕ, ◌*◌, ◌/◌, ◌<◌, ◌≡◌, Bool, true, ◌&&◌, nat_eq, Option, Some, None, refl, sym, ap, ◌∙◌, subst, arith}
 use Rattle.std.specs.List.{slice_get}
 use Rattle.std.proofs.lemmas.Bool.{eq-eqb}
 use Rattle.std.proofs.lemmas.Option.{same_Some, none-some}
@@ -15,7 +15,7 @@ use Rattle.cal_resizable.specs.Slots.{count_at as slots_count}
 use Rattle.cal_transport.specs.Ledger.{Ledger, Chunk, layout_at, is_live}
 use Rattle.cal_transport.specs.Weights.{live_in, one_if}
 use Rattle.cal_transport.specs.Core.{Core, ActiveSegment, GivesBack}
-use Rattle.cal_transport.specs.Shown.{is_active, Shows, pointer_to}
+use Rattle.cal_transport.specs.Shown.{Shows, pointer_to}
 use Rattle.cal_transport.specs.Sharing.{FreesUnless}
 use Rattle.cal_transport.specs.State.{TransportState, core_of, active_of}
 use Rattle.cal_transport.proofs.Changing.{pointer_used}

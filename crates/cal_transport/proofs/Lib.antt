@@ -77,6 +77,7 @@ pub mod Seen
 pub mod ReceivedCode
 pub mod Lent
 pub mod ReleaseCode
+pub mod RoomTaken
 pub mod Frees
 pub mod ListedCounts
 pub mod TransitWalk

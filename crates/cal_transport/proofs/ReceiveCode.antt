@@ -21,7 +21,7 @@ use Rattle.cal_transport.proofs.Settled.{settled}
 use Rattle.cal_transport.proofs.PortCalls.{channel_is, with_is, borrow_limit}
 use Rattle.cal_transport.proofs.Represented.{IsPlaceless, stands, state_same}
 use Rattle.cal_transport.proofs.Stands.{SameCore}
-use Rattle.cal_transport.proofs.ReceiveStep.{receive_at_limit, receives_none}
+use Rattle.cal_transport.proofs.ReceiveStep.{receive_outside, receive_at_limit, receives_none}
 
 -- ---- what the receiver's call says
 
@@ -55,6 +55,18 @@ answer_at_limit limit count ch e is = go (nat_le limit count) refl is
         nat_le limit count ≡ true
     go true is q = is
     go false is q = absurd (let q2 = q in cc)
+
+-- ---- a channel that isn't there
+
+pub receive_outside_does : (t : TransportState) (k : ℕ) → t.settings.channels ≤ k →
+    DoesAnywhere t (command.Receive k) (Refused refusal.OutsideConnection) t
+receive_outside_does t k past place l r =
+    stands t l (command.Receive k) (Refused refusal.OutsideConnection) r.place place r.sound placeless
+    (λ any. receive_outside (core_of t) l any k r.shows r.tracks past)
+  where
+    placeless : IsPlaceless l (command.Receive k) (Refused refusal.OutsideConnection)
+    placeless None a b = refl
+    placeless (Some why) a b = refl
 
 module _ (t : TransportState) (linked : IsLinked t) (k : ℕ) (inside : k < t.settings.channels) where
   abbrev ch : ChannelEntry

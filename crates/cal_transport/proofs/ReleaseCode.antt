@@ -1,6 +1,5 @@
 -- A release, from what the calls on the port and the view say.
 use Rattle.std.proofs.Common.{IsSomeAnd, option_map, ℕ, ◌+◌, ◌-◌, ◌*◌, ◌<◌, ◌≤◌, ◌≡◌, ◌≢◌, Bool, true, false, cond, ◌&&◌, nat_eq, nat_lt, List, length, set, get_or, Option, Some, None, Result, Ok, Err, refl, sym, ap, ◌∙◌, subst, arith}
-use Rattle.std.specs.List.{slice_get}
 use Rattle.std.proofs.lemmas.Bool.{true≢false, eqb-true, eqb-false, eq-eqb, ltb-true, lt-ltb, and_parts, or_right}
 use Rattle.std.proofs.lemmas.List.{get_or-set_same, get_or-set_other, length-set, length-map, set-get_or}
 use Rattle.cal_alloc.specs.PointerOffset.{segment_of, pointer_offset}
@@ -32,7 +31,7 @@ use Rattle.cal_transport.specs.Shown.{ShowsMapped, pointer_to, pointer_named}
 use Rattle.cal_transport.specs.Viewing.{is_told, mapped_after_return}
 use Rattle.cal_transport.specs.Sharing.{GoesBack}
 use Rattle.cal_transport.specs.State.{TransportState, core_of, active_of, mapped_at, LinksPorts, IsLinked, Represents, DoesAnywhere}
-use Rattle.cal_transport.proofs.Settled.{IsSettled, settled}
+use Rattle.cal_transport.proofs.Settled.{settled}
 use Rattle.cal_transport.proofs.PortCalls.{channel_is, with_is, channel_here, channel_else, links_after, count_here, count_else, counts_long}
 use Rattle.cal_transport.proofs.Represented.{IsPlaceless, stands, state_same}
 use Rattle.cal_transport.proofs.Stands.{HasHistory, has_history, Steps}
@@ -45,7 +44,7 @@ pub use Rattle.cal_transport.proofs.Placed.{PlaceOf, place_of}
 use Rattle.cal_transport.proofs.Fronts.{is_pointer}
 use Rattle.cal_transport.proofs.Finding.{IsChunk, found_chunk, found_none}
 use Rattle.cal_transport.proofs.Lent.{IsNamable, namable, unknown_unborrowed, found_tells}
-use Rattle.cal_transport.proofs.ReleaseStep.{Releases, IsBorrowed, releases, release_unborrowed, release_full, may_release}
+use Rattle.cal_transport.proofs.ReleaseStep.{Releases, IsBorrowed, releases, release_outside, release_unborrowed, release_full, may_release}
 
 -- ---- what the receiver's call says
 
@@ -74,6 +73,18 @@ answer_full ch why is = go (is_full ch.completion) refl is
         is_full ch.completion ≡ true
     go true e q = e
     go false e q = absurd (let q2 = q in cc)
+
+-- ---- a channel that isn't there
+
+pub release_outside_does : (t : TransportState) (k name : ℕ) → t.settings.channels ≤ k →
+    DoesAnywhere t (command.Release k name) (Refused refusal.OutsideConnection) t
+release_outside_does t k name past place l r =
+    stands t l (command.Release k name) (Refused refusal.OutsideConnection) r.place place r.sound placeless
+    (λ any. release_outside (core_of t) l any k name r.shows r.tracks past)
+  where
+    placeless : IsPlaceless l (command.Release k name) (Refused refusal.OutsideConnection)
+    placeless None a b = refl
+    placeless (Some why) a b = refl
 
 module _ (t : TransportState) (linked : IsLinked t) (k : ℕ) (inside : k < t.settings.channels) (name : ℕ) where
   abbrev ch : ChannelEntry

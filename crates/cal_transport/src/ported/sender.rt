@@ -9,7 +9,7 @@ use crate::ported::chunk_entry::{ChunkEntry, Found, find_entry};
 use crate::ported::pointing::{pointed_entry, pointer_at};
 use crate::ported::sharing::free_unless;
 use crate::ported::taking_back::{
-    count_less, count_more, end_loan, enter_channel, leave_channel, slot_at,
+    count_less, count_more, end_loan, enter_channel, leave_channel, slot_at, take_place,
 };
 use crate::ported::transport::Transport;
 use crate::reply::{Refusal, Slot};
@@ -35,16 +35,12 @@ impl Transport {
         ensures step { SendDoes self.old channel chunk result self.new }
         ensures room { TakesRoomOfOne self.old self.new }
     {
-        let sample = match self.sample_to_send(channel, chunk) {
-            Ok(sample) => sample,
-            Err(refusal) => return Err(refusal),
-        };
-        let channel_id = ChannelId::new(channel);
+        let sample = self.sample_to_send(channel, chunk)?;
         let answer = self.sender.try_send(
             &mut self.connection_registry,
             sample.pointer,
             sample.size,
-            channel_id,
+            ChannelId::new(channel),
         );
         let back = match answer {
             Ok(back) => back,
@@ -66,8 +62,7 @@ impl Transport {
             &self.memory_registry,
             oldest,
         );
-        enter_channel(&mut self.entries, sample.found);
-        let kept = leave_channel(&mut self.entries, leaving);
+        let kept = take_place(&mut self.entries, sample.found, leaving);
         free_unless(
             kept,
             &mut self.memory,
@@ -116,21 +111,6 @@ impl Transport {
             pointer,
             size,
         })
-    }
-
-    /// The pointer to a chunk that is loaned or in transit.
-    pub(crate) fn pointer_of(&self, entry: ChunkEntry) -> PointerOffset {
-        let size = self.bucket_size_of(entry);
-        PointerOffset::from_offset_and_segment_id(
-            entry.bucket * size,
-            SegmentId::new(entry.segment),
-        )
-    }
-
-    /// The size in bytes of the buckets of a chunk's segment, for a chunk that is loaned or in transit.
-    pub(crate) fn bucket_size_of(&self, entry: ChunkEntry) -> usize {
-        self.memory
-            .bucket_size(&self.memory_registry, SegmentId::new(entry.segment))
     }
 
     /// Takes back the oldest chunk that the receiver gave back on a channel, if there is one.

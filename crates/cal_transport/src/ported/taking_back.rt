@@ -41,6 +41,23 @@ pub(crate) fn leave_channel(entries: &mut Vec<ChunkEntry>, found: Found) -> bool
     found.entry.loaned || transits > 0
 }
 
+/// A chunk is sent on a channel in the place of another, which isn't in transit there any more. Whether the bucket of
+/// the other is kept.
+pub(crate) fn take_place(entries: &mut Vec<ChunkEntry>, joining: Found, leaving: Found) -> bool
+    requires joining { joining.index < vec_len entries.old }
+    requires small { joining.entry.transits < 2 ^ 63 }
+    requires leaving { leaving.index < vec_len entries.old }
+    requires transit { 0 < leaving.entry.transits }
+    ensures written { entries.new.items ≡ slice_set (slice_set entries.old.items joining.index
+        (record joining.entry { sent = true; transits = joining.entry.transits + 1 })) leaving.index
+        (record leaving.entry { transits = leaving.entry.transits - 1 }) }
+    ensures room { vec_capacity entries.new ≡ vec_capacity entries.old }
+    ensures kept { result ≡ (leaving.entry.loaned || nat_lt 0 (leaving.entry.transits - 1)) }
+{
+    enter_channel(entries, joining);
+    leave_channel(entries, leaving)
+}
+
 /// The loan of the chunk of an entry ends.
 pub(crate) fn end_loan(entries: &mut Vec<ChunkEntry>, found: Found)
     requires index { found.index < vec_len entries.old }

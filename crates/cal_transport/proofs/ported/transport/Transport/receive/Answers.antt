@@ -1,4 +1,4 @@
-use Rattle.std.proofs.Common.{◌≡◌, ◌<◌, ◌∙◌, ℕ, Option, Some, None, Result, Ok, Err, set, get_or, ◌*◌, ◌+◌, sym, ap, subst, arith}
+use Rattle.std.proofs.Common.{◌≡◌, ◌<◌, ◌∙◌, ℕ, Option, Some, None, Result, Ok, Err, set, get_or, ◌*◌, ◌+◌, refl, sym, ap, subst, arith}
 use Rattle.cal_alloc.specs.PointerOffset.{offset_of, segment_of}
 use Rattle.cal_transport.specs.declared.command.Command.TheVariants as command
 use Rattle.cal_transport.specs.declared.reply.Reply.TheVariants.{Received, Refused}
@@ -9,12 +9,14 @@ use Rattle.cal_storage.specs.Contents.{Contents}
 use Rattle.cal_transport.specs.ChunkEntry.{owners_of}
 use Rattle.cal_transport.specs.Ledger.{Ledger}
 use Rattle.cal_transport.specs.Pointed.{PointsTo}
+use Rattle.cal_transport.specs.Room.{TakesRoomOfOne}
 use Rattle.cal_transport.specs.State.{TransportState, Represents, IsLinked, DoesAnywhere}
 use Rattle.cal_transport.specs.StateOf.{state_of}
 use Rattle.cal_queue.specs.UsedChunks.{capacity_of, none_used, after_insertion}
 use Rattle.cal_transport.specs.Step.{after_step}
-use Rattle.cal_transport.proofs.ReceiveCode.{ReceiveCall, receive_limit_state, receive_limit_does, receive_none_state, receive_none_does}
+use Rattle.cal_transport.proofs.ReceiveCode.{ReceiveCall, receive_outside_does, receive_limit_state, receive_limit_does, receive_none_state, receive_none_does}
 use Rattle.cal_transport.proofs.ReceivedCode.{front_leads, front_active, front_room, front_capacity, found_entry, entry_mark, received_linked, received_does}
+use Rattle.cal_transport.proofs.RoomTaken.{makes_none}
 use Rattle.cal_transport.proofs.ported.transport.Transport.receive.Goals as goal
 
 call_at : (t : TransportState) (n k : ℕ) → n ≡ k → (a b : Result (Option ℕ) ZeroCopyReceiveError) → a ≡ b →
@@ -23,6 +25,14 @@ call_at : (t : TransportState) (n k : ℕ) → n ≡ k → (a b : Result (Option
 call_at t n k same a b is registry receiver call =
     subst (λ m. ReceiveCall t m b registry receiver) same
     (subst (λ r. ReceiveCall t n r registry receiver) is call)
+
+pub returns-then-channel-self-clause-step : goal.returns-then-channel-self-clause-step
+returns-then-channel-self-clause-step c =
+    subst (λ t. DoesAnywhere t (command.Receive c.args.channel) (Refused refusal.OutsideConnection) t) c.self.view_is
+    (receive_outside_does (state_of c.self.inside) c.args.channel c.if-channel-self.true)
+
+pub returns-then-channel-self-clause-room : goal.returns-then-channel-self-clause-room
+returns-then-channel-self-clause-room c = makes_none c.args.self.now c.args.self.now refl (omega arith)
 
 pub invariant_of-self : goal.invariant_of-self
 invariant_of-self c =
@@ -43,8 +53,8 @@ invariant_of-self c =
       linked = subst IsLinked (sym same) c.self.invariant.linked;
     }
 
-pub returns-in-Err : goal.returns-in-Err
-returns-in-Err c =
+pub returns-in-Err-clause-step : goal.returns-in-Err-clause-step
+returns-in-Err-clause-step c =
     let call = call_at (state_of c.self.inside) c.new.result
     c.args.channel c.new.ensures.value c.receive-answer.result (Err c.in-Err.field-0) c.in-Err.is
     c.receive-answer.new.reg
@@ -56,19 +66,26 @@ returns-in-Err c =
     let same = receive_limit_state (state_of c.self.inside) c.self.invariant.linked c.args.channel
     c.if-channel-self.false
     c.receive-answer.new.reg c.receive-answer.new.self c.in-Err.field-0 call in
-    record {
-      step = subst (λ t. DoesAnywhere t (command.Receive c.args.channel) (Refused
-          refusal.ReceiveWouldExceedMaxBorrowValue)
-          (record (state_of c.self.inside) {
-            connection_registry = c.receive-answer.new.reg;
-            receiver = c.receive-answer.new.self;
-          })) c.self.view_is
-          (subst (λ t. DoesAnywhere (state_of c.self.inside) (command.Receive c.args.channel) (Refused
-          refusal.ReceiveWouldExceedMaxBorrowValue) t)
-          (sym same)
-          (receive_limit_does (state_of c.self.inside) c.self.invariant.linked c.args.channel c.if-channel-self.false
-          c.receive-answer.new.reg c.receive-answer.new.self c.in-Err.field-0 call));
-    }
+    subst (λ t. DoesAnywhere t (command.Receive c.args.channel) (Refused
+    refusal.ReceiveWouldExceedMaxBorrowValue)
+    (record (state_of c.self.inside) {
+      connection_registry = c.receive-answer.new.reg;
+      receiver = c.receive-answer.new.self;
+    })) c.self.view_is
+    (subst (λ t. DoesAnywhere (state_of c.self.inside) (command.Receive c.args.channel) (Refused
+    refusal.ReceiveWouldExceedMaxBorrowValue) t)
+    (sym same)
+    (receive_limit_does (state_of c.self.inside) c.self.invariant.linked c.args.channel c.if-channel-self.false
+    c.receive-answer.new.reg c.receive-answer.new.self c.in-Err.field-0 call))
+
+pub returns-in-Err-clause-room : goal.returns-in-Err-clause-room
+returns-in-Err-clause-room c =
+    let same : TransportState = record (state_of c.self.inside) {
+      connection_registry = c.receive-answer.new.reg;
+      receiver = c.receive-answer.new.self;
+    } in
+    subst (λ t. TakesRoomOfOne t same) c.self.view_is
+    (makes_none (state_of c.self.inside) same refl (omega arith))
 
 pub invariant_of-self-in-None : goal.invariant_of-self-in-None
 invariant_of-self-in-None c =
@@ -89,8 +106,8 @@ invariant_of-self-in-None c =
       linked = subst IsLinked (sym same) c.self.invariant.linked;
     }
 
-pub returns-in-None : goal.returns-in-None
-returns-in-None c =
+pub returns-in-None-clause-step : goal.returns-in-None-clause-step
+returns-in-None-clause-step c =
     let call = call_at (state_of c.self.inside) c.new.result
     c.args.channel c.new.ensures.value c.receive-answer.result (Ok None) (c.in-Ok.is ∙ ap Ok c.in-None.is)
     c.receive-answer.new.reg
@@ -102,17 +119,24 @@ returns-in-None c =
     let same = receive_none_state (state_of c.self.inside) c.self.invariant.linked c.args.channel
     c.if-channel-self.false
     c.receive-answer.new.reg c.receive-answer.new.self call in
-    record {
-      step = subst (λ t. DoesAnywhere t (command.Receive c.args.channel) (Received None)
-          (record (state_of c.self.inside) {
-            connection_registry = c.receive-answer.new.reg;
-            receiver = c.receive-answer.new.self;
-          })) c.self.view_is
-          (subst (λ t. DoesAnywhere (state_of c.self.inside) (command.Receive c.args.channel) (Received None) t)
-          (sym same)
-          (receive_none_does (state_of c.self.inside) c.self.invariant.linked c.args.channel c.if-channel-self.false
-          c.receive-answer.new.reg c.receive-answer.new.self call));
-    }
+    subst (λ t. DoesAnywhere t (command.Receive c.args.channel) (Received None)
+    (record (state_of c.self.inside) {
+      connection_registry = c.receive-answer.new.reg;
+      receiver = c.receive-answer.new.self;
+    })) c.self.view_is
+    (subst (λ t. DoesAnywhere (state_of c.self.inside) (command.Receive c.args.channel) (Received None) t)
+    (sym same)
+    (receive_none_does (state_of c.self.inside) c.self.invariant.linked c.args.channel c.if-channel-self.false
+    c.receive-answer.new.reg c.receive-answer.new.self call))
+
+pub returns-in-None-clause-room : goal.returns-in-None-clause-room
+returns-in-None-clause-room c =
+    let same : TransportState = record (state_of c.self.inside) {
+      connection_registry = c.receive-answer.new.reg;
+      receiver = c.receive-answer.new.self;
+    } in
+    subst (λ t. TakesRoomOfOne t same) c.self.view_is
+    (makes_none (state_of c.self.inside) same refl (omega arith))
 
 pub pointed_entry-found-requires-clause-points : goal.pointed_entry-found-requires-clause-points
 pointed_entry-found-requires-clause-points c =
@@ -265,8 +289,8 @@ invariant_of-self-2 c =
           c.lend.new.lent.items lent;
     }
 
-pub returns : goal.returns
-returns c =
+pub returns-clause-step : goal.returns-clause-step
+returns-clause-step c =
     let call = call_at (state_of c.self.inside) c.new.result
     c.args.channel c.new.ensures.value c.receive-answer.result (Ok (Some c.in-Some.pointer)) (c.in-Ok.is ∙ ap Ok
     c.in-Some.is) c.receive-answer.new.reg
@@ -294,38 +318,48 @@ returns c =
     c.receive-answer.new.reg c.receive-answer.new.self call
     c.arrive.new.reg c.arrive.new.view c.arrive.ensures.arrived c.pointed_entry-found.result.entry c.lend.new.lent.items
     lent entries in
-    record {
-      step = subst (λ t. DoesAnywhere t (command.Receive c.args.channel) (Received (Some (record {
-        chunk = c.pointed_entry-found.result.entry.name;
-        segment = c.value.result;
-        place = c.offset.result;
-      }))) (record (state_of c.self.inside) {
-        memory_registry = c.arrive.new.reg;
-        view = c.arrive.new.view;
-        connection_registry = c.receive-answer.new.reg;
-        receiver = c.receive-answer.new.self;
-        lent = c.lend.new.lent.items;
-      })) c.self.view_is
-          (subst (λ n. DoesAnywhere (state_of c.self.inside) (command.Receive c.args.channel) (Received (Some (record {
-            chunk = c.pointed_entry-found.result.entry.name;
-            segment = n;
-            place = c.offset.result;
-          }))) (record (state_of c.self.inside) {
-            memory_registry = c.arrive.new.reg;
-            view = c.arrive.new.view;
-            connection_registry = c.receive-answer.new.reg;
-            receiver = c.receive-answer.new.self;
-            lent = c.lend.new.lent.items;
-          })) (sym (c.value.ensures.value ∙ c.segment_id.ensures.value))
-          (subst (λ n. DoesAnywhere (state_of c.self.inside) (command.Receive c.args.channel) (Received (Some (record {
-            chunk = c.pointed_entry-found.result.entry.name;
-            segment = segment_of c.in-Some.pointer;
-            place = n;
-          }))) (record (state_of c.self.inside) {
-            memory_registry = c.arrive.new.reg;
-            view = c.arrive.new.view;
-            connection_registry = c.receive-answer.new.reg;
-            receiver = c.receive-answer.new.self;
-            lent = c.lend.new.lent.items;
-          })) (sym c.offset.ensures.value) does));
-    }
+    subst (λ t. DoesAnywhere t (command.Receive c.args.channel) (Received (Some (record {
+      chunk = c.pointed_entry-found.result.entry.name;
+      segment = c.value.result;
+      place = c.offset.result;
+    }))) (record (state_of c.self.inside) {
+      memory_registry = c.arrive.new.reg;
+      view = c.arrive.new.view;
+      connection_registry = c.receive-answer.new.reg;
+      receiver = c.receive-answer.new.self;
+      lent = c.lend.new.lent.items;
+    })) c.self.view_is
+    (subst (λ n. DoesAnywhere (state_of c.self.inside) (command.Receive c.args.channel) (Received (Some (record {
+      chunk = c.pointed_entry-found.result.entry.name;
+      segment = n;
+      place = c.offset.result;
+    }))) (record (state_of c.self.inside) {
+      memory_registry = c.arrive.new.reg;
+      view = c.arrive.new.view;
+      connection_registry = c.receive-answer.new.reg;
+      receiver = c.receive-answer.new.self;
+      lent = c.lend.new.lent.items;
+    })) (sym (c.value.ensures.value ∙ c.segment_id.ensures.value))
+    (subst (λ n. DoesAnywhere (state_of c.self.inside) (command.Receive c.args.channel) (Received (Some (record {
+      chunk = c.pointed_entry-found.result.entry.name;
+      segment = segment_of c.in-Some.pointer;
+      place = n;
+    }))) (record (state_of c.self.inside) {
+      memory_registry = c.arrive.new.reg;
+      view = c.arrive.new.view;
+      connection_registry = c.receive-answer.new.reg;
+      receiver = c.receive-answer.new.self;
+      lent = c.lend.new.lent.items;
+    })) (sym c.offset.ensures.value) does))
+
+pub returns-clause-room : goal.returns-clause-room
+returns-clause-room c =
+    let received : TransportState = record (state_of c.self.inside) {
+      memory_registry = c.arrive.new.reg;
+      view = c.arrive.new.view;
+      connection_registry = c.receive-answer.new.reg;
+      receiver = c.receive-answer.new.self;
+      lent = c.lend.new.lent.items;
+    } in
+    subst (λ t. TakesRoomOfOne t received) c.self.view_is
+    (makes_none (state_of c.self.inside) received refl (omega arith))

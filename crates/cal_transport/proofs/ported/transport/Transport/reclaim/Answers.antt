@@ -1,4 +1,5 @@
-use Rattle.std.proofs.Common.{◌≡◌, ◌-◌, ◌/◌, ◌∙◌, ℕ, Option, Some, None, Result, Ok, Err, vec_len, vec_capacity, sym, ap, subst, arith}
+use Rattle.std.proofs.Common.{◌≡◌, ◌-◌, ◌/◌, ◌∙◌, ℕ, length, Option, Some, None, Result, Ok, Err, vec_len, vec_capacity, refl, sym, ap, subst, arith}
+use Rattle.std.proofs.lemmas.List.{length-set}
 use Rattle.cal_alloc.specs.PointerOffset.{offset_of, segment_of}
 use Rattle.cal_alloc.specs.Pool.{Pool}
 use Rattle.cal_storage.specs.Contents.{Contents}
@@ -12,11 +13,13 @@ use Rattle.cal_transport.specs.declared.reply.Refusal.TheVariants as refusal
 use Rattle.cal_transport.specs.declared.reply.Slot.{Slot}
 use Rattle.cal_transport.specs.ChunkEntry.{owners_of}
 use Rattle.cal_transport.specs.Pointed.{PointsTo}
+use Rattle.cal_transport.specs.Room.{TakesRoomOfOne}
 use Rattle.cal_transport.specs.Sharing.{FreesUnless}
 use Rattle.cal_transport.specs.Step.{after_step}
 use Rattle.cal_transport.specs.State.{TransportState, Represents, IsLinked, DoesAnywhere}
 use Rattle.cal_transport.specs.StateOf.{state_of}
 use Rattle.cal_transport.proofs.ReclaimCode.{ReclaimCall, reclaim_outside_does, reclaim_answers, reclaim_none_state, reclaim_none_does, front_leads, front_out, front_used, front_counted, front_in_all, found_index, found_transit, reclaimed_linked, reclaimed_does}
+use Rattle.cal_transport.proofs.RoomTaken.{same_spare, makes_none}
 use Rattle.cal_transport.proofs.ported.transport.Transport.reclaim.Goals as goal
 
 call_at : (t : TransportState) (n k : ℕ) → n ≡ k → (a b : Result (Option ℕ) ZeroCopyReclaimError) → a ≡ b →
@@ -30,6 +33,9 @@ pub returns-then-channel-self-clause-step : goal.returns-then-channel-self-claus
 returns-then-channel-self-clause-step c =
     subst (λ t. DoesAnywhere t (command.Reclaim c.args.channel) (Refused refusal.OutsideConnection) t) c.self.view_is
     (reclaim_outside_does (state_of c.self.inside) c.args.channel c.if-channel-self.true)
+
+pub returns-then-channel-self-clause-room : goal.returns-then-channel-self-clause-room
+returns-then-channel-self-clause-room c = makes_none c.args.self.now c.args.self.now refl (omega arith)
 
 pub unreachable-requires : goal.unreachable-requires
 unreachable-requires c =
@@ -81,6 +87,15 @@ returns-in-None-clause-step c =
     (subst (λ t. DoesAnywhere (state_of c.self.inside) (command.Reclaim c.args.channel) (Reclaimed None) t) (sym same)
     (reclaim_none_does (state_of c.self.inside) c.self.invariant.linked c.args.channel c.if-channel-self.false
     c.reclaim-answer.new.reg c.reclaim-answer.new.self call))
+
+pub returns-in-None-clause-room : goal.returns-in-None-clause-room
+returns-in-None-clause-room c =
+    let same : TransportState = record (state_of c.self.inside) {
+      connection_registry = c.reclaim-answer.new.reg;
+      sender = c.reclaim-answer.new.self;
+    } in
+    subst (λ t. TakesRoomOfOne t same) c.self.view_is
+    (makes_none (state_of c.self.inside) same refl (omega arith))
 
 pub pointed_entry-found-requires-clause-points : goal.pointed_entry-found-requires-clause-points
 pointed_entry-found-requires-clause-points c =
@@ -290,3 +305,21 @@ returns-clause-step c =
       in_transit = c.self.inside.in_transit - 1;
       spare = vec_capacity c.leave_channel-kept.new.entries - vec_len c.leave_channel-kept.new.entries;
     })) (sym c.slot_at.ensures.slot) does)
+
+pub returns-clause-room : goal.returns-clause-room
+returns-clause-room c =
+    let reclaimed : TransportState = record (state_of c.self.inside) {
+      memory_registry = c.free_unless.new.reg;
+      memory = c.free_unless.new.memory;
+      connection_registry = c.reclaim-answer.new.reg;
+      sender = c.reclaim-answer.new.self;
+      entries = c.leave_channel-kept.new.entries.items;
+      transits = c.count_less.new.transits.items;
+      in_transit = c.self.inside.in_transit - 1;
+      spare = vec_capacity c.leave_channel-kept.new.entries - vec_len c.leave_channel-kept.new.entries;
+    } in
+    subst (λ t. TakesRoomOfOne t reclaimed) c.self.view_is
+    (makes_none (state_of c.self.inside) reclaimed
+    (same_spare c.self.inside.entries c.leave_channel-kept.new.entries c.leave_channel-kept.ensures.room
+    (ap length c.leave_channel-kept.ensures.written
+    ∙ length-set c.self.inside.entries.items c.pointed_entry-found.result.index _)) (omega arith))

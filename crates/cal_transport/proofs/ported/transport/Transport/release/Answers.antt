@@ -1,4 +1,4 @@
-use Rattle.std.proofs.Common.{◌≡◌, ◌<◌, ◌≤◌, ◌∙◌, ◌*◌, ◌+◌, ◌&&◌, nat_lt, ℕ, Result, Ok, Err, set, get_or, sym, ap, subst, arith}
+use Rattle.std.proofs.Common.{◌≡◌, ◌<◌, ◌≤◌, ◌∙◌, ◌*◌, ◌+◌, ◌&&◌, nat_lt, ℕ, Result, Ok, Err, set, get_or, refl, sym, ap, subst, arith}
 use Rattle.cal_queue.specs.UsedChunks.{contains, capacity_of, none_used, after_removal}
 use Rattle.cal_storage.specs.Contents.{Contents}
 use Rattle.cal_connection.specs.declared.errors.ZeroCopyReleaseError.{ZeroCopyReleaseError}
@@ -7,11 +7,13 @@ use Rattle.cal_transport.specs.declared.command.Command.TheVariants as command
 use Rattle.cal_transport.specs.declared.reply.Reply.TheVariants.{Released, Refused}
 use Rattle.cal_transport.specs.declared.reply.Refusal.TheVariants as refusal
 use Rattle.cal_transport.specs.ChunkEntry.{AreRising, HasNoEntry, IsFound}
+use Rattle.cal_transport.specs.Room.{TakesRoomOfOne}
 use Rattle.cal_transport.specs.Step.{after_step}
 use Rattle.cal_transport.specs.State.{TransportState, core_of, Represents, IsLinked, DoesAnywhere}
 use Rattle.cal_transport.specs.StateOf.{state_of}
 use Rattle.cal_transport.proofs.Finding.{entries_rise}
-use Rattle.cal_transport.proofs.ReleaseCode.{ReleaseCall, release_unknown_does, release_unlent_does, marks_many, transit_mark, lent_mark, place, pointer_by, counts_it, registered, release_full_state, release_full_does, released_linked, released_does}
+use Rattle.cal_transport.proofs.ReleaseCode.{ReleaseCall, release_outside_does, release_unknown_does, release_unlent_does, marks_many, transit_mark, lent_mark, place, pointer_by, counts_it, registered, release_full_state, release_full_does, released_linked, released_does}
+use Rattle.cal_transport.proofs.RoomTaken.{makes_none}
 use Rattle.cal_transport.proofs.ported.transport.Transport.release.Goals as goal
 
 call_at : (t : TransportState) (n k : ℕ) → n ≡ k → (pointer : ℕ) (a b : Result (Unit {0}) ZeroCopyReleaseError) →
@@ -21,6 +23,15 @@ call_at t n k same pointer a b is registry receiver call =
     subst (λ m. ReleaseCall t m pointer b registry receiver) same
     (subst (λ r. ReleaseCall t n pointer r registry receiver) is call)
 
+pub returns-then-channel-self-clause-step : goal.returns-then-channel-self-clause-step
+returns-then-channel-self-clause-step c =
+    subst (λ t. DoesAnywhere t (command.Release c.args.channel c.args.chunk) (Refused refusal.OutsideConnection) t)
+    c.self.view_is
+    (release_outside_does (state_of c.self.inside) c.args.channel c.args.chunk c.if-channel-self.true)
+
+pub returns-then-channel-self-clause-room : goal.returns-then-channel-self-clause-room
+returns-then-channel-self-clause-room c = makes_none c.args.self.now c.args.self.now refl (omega arith)
+
 pub find_entry-requires : goal.find_entry-requires
 find_entry-requires c = record {
   rising = subst AreRising (sym c.deref.ensures.value)
@@ -28,14 +39,15 @@ find_entry-requires c = record {
       c.self.invariant.represents.shows c.self.invariant.represents.sound.names);
 }
 
-pub returns-in-None : goal.returns-in-None
-returns-in-None c = record {
-  step = subst (λ t. DoesAnywhere t (command.Release c.args.channel c.args.chunk) (Refused refusal.NotBorrowed) t)
-      c.self.view_is
-      (release_unknown_does (state_of c.self.inside) c.self.invariant.linked c.args.channel c.if-channel-self.false
-      c.args.chunk
-      (subst (λ es. HasNoEntry es c.args.chunk) c.deref.ensures.value c.in-None.ensures.found));
-}
+pub returns-in-None-clause-step : goal.returns-in-None-clause-step
+returns-in-None-clause-step c = subst (λ t. DoesAnywhere t (command.Release c.args.channel c.args.chunk) (Refused refusal.NotBorrowed) t)
+    c.self.view_is
+    (release_unknown_does (state_of c.self.inside) c.self.invariant.linked c.args.channel c.if-channel-self.false
+    c.args.chunk
+    (subst (λ es. HasNoEntry es c.args.chunk) c.deref.ensures.value c.in-None.ensures.found))
+
+pub returns-in-None-clause-room : goal.returns-in-None-clause-room
+returns-in-None-clause-room c = makes_none c.args.self.now c.args.self.now refl (omega arith)
 
 pub is_lent-requires-clause-mark : goal.is_lent-requires-clause-mark
 is_lent-requires-clause-mark c =
@@ -60,20 +72,21 @@ is_lent-requires-clause-small c =
     subst (λ us. capacity_of (get_or us c.args.channel (none_used 0)) ≤ 9223372036854775808)
     (sym c.deref-2.ensures.value) (omega arith)
 
-pub returns-then-not-is_lent : goal.returns-then-not-is_lent
-returns-then-not-is_lent c =
+pub returns-then-not-is_lent-clause-step : goal.returns-then-not-is_lent-clause-step
+returns-then-not-is_lent-clause-step c =
     let is = subst (λ es. IsFound es c.args.chunk c.in-Some.found) c.deref.ensures.value c.in-Some.ensures.found in
     let told = subst (λ us. c.is_lent.result ≡ (nat_lt 0 c.in-Some.found.entry.transits
     && contains (get_or us c.args.channel (none_used 0)) (c.in-Some.found.entry.segment * c.self.inside.settings.samples
     + c.in-Some.found.entry.bucket))) c.deref-2.ensures.value c.is_lent.ensures.lent in
-    record {
-      step = subst (λ t. DoesAnywhere t (command.Release c.args.channel c.args.chunk) (Refused refusal.NotBorrowed) t)
-          c.self.view_is
-          (release_unlent_does (state_of c.self.inside) c.self.invariant.linked c.args.channel
-          c.if-channel-self.false c.args.chunk
-          c.in-Some.found is
-          (sym told ∙ c.if-not-is_lent.true));
-    }
+    subst (λ t. DoesAnywhere t (command.Release c.args.channel c.args.chunk) (Refused refusal.NotBorrowed) t)
+    c.self.view_is
+    (release_unlent_does (state_of c.self.inside) c.self.invariant.linked c.args.channel
+    c.if-channel-self.false c.args.chunk
+    c.in-Some.found is
+    (sym told ∙ c.if-not-is_lent.true))
+
+pub returns-then-not-is_lent-clause-room : goal.returns-then-not-is_lent-clause-room
+returns-then-not-is_lent-clause-room c = makes_none c.args.self.now c.args.self.now refl (omega arith)
 
 pub pointer_at-pointer-requires-clause-place : goal.pointer_at-pointer-requires-clause-place
 pointer_at-pointer-requires-clause-place c =
@@ -120,8 +133,8 @@ invariant_of-self c =
       linked = subst IsLinked (sym same) c.self.invariant.linked;
     }
 
-pub returns-in-Err : goal.returns-in-Err
-returns-in-Err c =
+pub returns-in-Err-clause-step : goal.returns-in-Err-clause-step
+returns-in-Err-clause-step c =
     let is = subst (λ es. IsFound es c.args.chunk c.in-Some.found) c.deref.ensures.value c.in-Some.ensures.found in
     let told = subst (λ us. c.is_lent.result ≡ (nat_lt 0 c.in-Some.found.entry.transits
     && contains (get_or us c.args.channel (none_used 0)) (c.in-Some.found.entry.segment * c.self.inside.settings.samples
@@ -138,19 +151,26 @@ returns-in-Err c =
     c.if-channel-self.false c.args.chunk
     c.in-Some.found is lent
     c.pointer_at-pointer.result c.release-answer.new.reg c.release-answer.new.self c.in-Err.field-0 call in
-    record {
-      step = subst (λ t. DoesAnywhere t (command.Release c.args.channel c.args.chunk)
-          (Refused refusal.RetrieveBufferFull) (record (state_of c.self.inside) {
-            connection_registry = c.release-answer.new.reg;
-            receiver = c.release-answer.new.self;
-          })) c.self.view_is
-          (subst (λ t. DoesAnywhere (state_of c.self.inside) (command.Release c.args.channel c.args.chunk)
-          (Refused refusal.RetrieveBufferFull) t) (sym same)
-          (release_full_does (state_of c.self.inside) c.self.invariant.linked c.args.channel c.if-channel-self.false
-          c.args.chunk
-          c.in-Some.found is lent
-          c.pointer_at-pointer.result c.release-answer.new.reg c.release-answer.new.self c.in-Err.field-0 call));
-    }
+    subst (λ t. DoesAnywhere t (command.Release c.args.channel c.args.chunk)
+    (Refused refusal.RetrieveBufferFull) (record (state_of c.self.inside) {
+      connection_registry = c.release-answer.new.reg;
+      receiver = c.release-answer.new.self;
+    })) c.self.view_is
+    (subst (λ t. DoesAnywhere (state_of c.self.inside) (command.Release c.args.channel c.args.chunk)
+    (Refused refusal.RetrieveBufferFull) t) (sym same)
+    (release_full_does (state_of c.self.inside) c.self.invariant.linked c.args.channel c.if-channel-self.false
+    c.args.chunk
+    c.in-Some.found is lent
+    c.pointer_at-pointer.result c.release-answer.new.reg c.release-answer.new.self c.in-Err.field-0 call))
+
+pub returns-in-Err-clause-room : goal.returns-in-Err-clause-room
+returns-in-Err-clause-room c =
+    let same : TransportState = record (state_of c.self.inside) {
+      connection_registry = c.release-answer.new.reg;
+      receiver = c.release-answer.new.self;
+    } in
+    subst (λ t. TakesRoomOfOne t same) c.self.view_is
+    (makes_none (state_of c.self.inside) same refl (omega arith))
 
 pub go_back-requires-clause-registered : goal.go_back-requires-clause-registered
 go_back-requires-clause-registered c =
@@ -216,8 +236,8 @@ invariant_of-self-2 c =
           c.go_back.new.reg c.go_back.new.view c.go_back.ensures.gone c.unlend.new.lent.items lent_is;
     }
 
-pub returns : goal.returns
-returns c =
+pub returns-clause-step : goal.returns-clause-step
+returns-clause-step c =
     let is = subst (λ es. IsFound es c.args.chunk c.in-Some.found) c.deref.ensures.value c.in-Some.ensures.found in
     let told = subst (λ us. c.is_lent.result ≡ (nat_lt 0 c.in-Some.found.entry.transits
     && contains (get_or us c.args.channel (none_used 0)) (c.in-Some.found.entry.segment * c.self.inside.settings.samples
@@ -241,13 +261,23 @@ returns c =
     c.in-Some.found is lent
     c.pointer_at-pointer.result c.release-answer.new.reg c.release-answer.new.self call c.go_back.new.reg
     c.go_back.new.view c.go_back.ensures.gone c.unlend.new.lent.items lent_is pointer_is in
-    record {
-      step = subst (λ t. DoesAnywhere t (command.Release c.args.channel c.args.chunk) Released
-          (record (state_of c.self.inside) {
-            memory_registry = c.go_back.new.reg;
-            view = c.go_back.new.view;
-            connection_registry = c.release-answer.new.reg;
-            receiver = c.release-answer.new.self;
-            lent = c.unlend.new.lent.items;
-          })) c.self.view_is does;
-    }
+    subst (λ t. DoesAnywhere t (command.Release c.args.channel c.args.chunk) Released
+    (record (state_of c.self.inside) {
+      memory_registry = c.go_back.new.reg;
+      view = c.go_back.new.view;
+      connection_registry = c.release-answer.new.reg;
+      receiver = c.release-answer.new.self;
+      lent = c.unlend.new.lent.items;
+    })) c.self.view_is does
+
+pub returns-clause-room : goal.returns-clause-room
+returns-clause-room c =
+    let released : TransportState = record (state_of c.self.inside) {
+      memory_registry = c.go_back.new.reg;
+      view = c.go_back.new.view;
+      connection_registry = c.release-answer.new.reg;
+      receiver = c.release-answer.new.self;
+      lent = c.unlend.new.lent.items;
+    } in
+    subst (λ t. TakesRoomOfOne t released) c.self.view_is
+    (makes_none (state_of c.self.inside) released refl (omega arith))
