@@ -1,14 +1,13 @@
 -- A bucket of a memory's current segment is handed out, as the call says it.
-use Rattle.std.proofs.Common.{ℕ, ◌+◌, ◌*◌, ◌/◌, ◌<◌, ◌≤◌, ◌≡◌, ◌≢◌, true, false, length, set, Option, Some, None, IsSomeAnd, option_map, inl, inr, refl, sym, ap, ◌∙◌, subst, arith}
-use Rattle.std.proofs.lemmas.Bool.{cases_lt}
-use Rattle.std.proofs.lemmas.List.{get_or-set_same, get_or-set_other, get_or_past, length-set}
-use Rattle.std.proofs.lemmas.Option.{none-some, same_Some}
-use Rattle.cal_alloc.specs.Pool.{Pool, GivesFreeBucket, is_used, with_mark, bucket_of}
+use Rattle.std.proofs.Common.{ℕ, ◌+◌, ◌*◌, ◌<◌, ◌≡◌, ◌≢◌, false, length, Option, Some, None, IsSomeAnd, option_map, inl, inr, refl, sym, ap, ◌∙◌, subst, arith}
+use Rattle.std.proofs.lemmas.List.{get_or-set_same, get_or-set_other, length-set}
+use Rattle.std.proofs.lemmas.Option.{none-some}
+use Rattle.cal_alloc.specs.Pool.{Pool, GivesFreeBucket, bucket_of}
 use Rattle.cal_alloc.specs.PointerOffset.{offset_of, segment_of, pointer_offset}
 use Rattle.cal_alloc.specs.SizeAndAlignment.{SizeAndAlignment}
 use Rattle.cal_storage.specs.declared.entry.Entry.{Entry}
 use Rattle.cal_storage.specs.declared.handle.Handle.{Handle}
-use Rattle.cal_storage.specs.Contents.{Contents, Has, entry_of, value_of, with_value}
+use Rattle.cal_storage.specs.Contents.{Contents, entry_of, value_of, with_value}
 use Rattle.cal_storage.specs.ValueLemmas.{value_of-with_value-same, value_of-with_value-other}
 use Rattle.cal_shm.specs.Segment.{Segment, with_allocator}
 use Rattle.cal_resizable.specs.Chunks.{segment_value, value_in}

@@ -65,10 +65,12 @@ pub mod NewMemory
 pub mod Openable
 pub mod Paths
 pub mod PoolRules
+pub mod NewPools
 pub mod NewView
 pub mod RunningState
 pub mod NewPorts
 pub mod Owners
+pub mod Entering
 pub mod PortCalls
 pub mod Segments
 pub mod Represented
@@ -109,6 +111,7 @@ pub mod NextBuckets
 pub mod LoanCauses
 pub mod Handed
 pub mod LoanLent
+pub mod LoanRoom
 pub mod LoanGrowth
 pub mod LoanCode
 pub mod LoanDone

@@ -1,11 +1,11 @@
 -- A segment has no more live chunks than there are chunks, so one more can be counted.
-use Rattle.std.proofs.Common.{ℕ, ◌+◌, ◌-◌, ◌^◌, ◌<◌, ◌≤◌, ◌≡◌, Bool, true, false, ◌&&◌, nat_eq, List, [], ◌∷◌, length, ap, ◌∙◌, sym, arith}
+use Rattle.std.proofs.Common.{◌-◌, ◌^◌, ◌<◌, ◌≤◌, Bool, true, false, ◌&&◌, nat_eq, List, [], ◌∷◌, length, ap, ◌∙◌, arith}
 use Rattle.std.proofs.lemmas.List.{length-map}
 use Rattle.cal_resizable.specs.Slots.{count_at}
 use Rattle.cal_transport.specs.Ledger.{Ledger, Chunk, current, is_live}
 use Rattle.cal_transport.specs.Shown.{entry_of}
 use Rattle.cal_transport.specs.State.{TransportState, Represents}
-use Rattle.cal_transport.specs.Weights.{live_in, one_if, total}
+use Rattle.cal_transport.specs.Weights.{one_if, total}
 use Rattle.cal_transport.proofs.LoanCauses.{has_current}
 use Rattle.cal_transport.proofs.Settled.{settled}
 

@@ -1,14 +1,14 @@
 -- The memory of a transport refuses a loan as the ledger does.
-use Rattle.std.proofs.Common.{ℕ, ◌+◌, ◌*◌, ◌^◌, ◌<◌, ◌≤◌, ◌≡◌, ◌≢◌, ◌⊎◌, inl, inr, Bool, true, false, cond, not, ◌||◌, ◌&&◌, nat_lt, nat_le, nat_eq, List, ◌∷◌, [], ◌++◌, codes, length, get_or, Option, Some, None, is_some, IsSome, option_map, Err, refl, sym, ap, ◌∙◌, subst, arith, length-append}
-use Rattle.std.specs.List.{slice_get, list_any}
+use Rattle.std.proofs.Common.{ℕ, ◌+◌, ◌*◌, ◌<◌, ◌≤◌, ◌≡◌, ◌≢◌, Bool, true, false, cond, not, ◌||◌, ◌&&◌, nat_lt, nat_eq, List, ◌++◌, codes, length, Option, Some, None, is_some, option_map, Err, refl, sym, ap, ◌∙◌, subst, arith, length-append}
+use Rattle.std.specs.List.{list_any}
 use Rattle.std.specs.Int.{is_power_of_two}
 use Rattle.std.specs.Fmt.{decimal}
 use Rattle.std.specs.Option.{option_or}
-use Rattle.std.proofs.lemmas.Bool.{true≢false, lt-ltb, and_from, or_left, eq-eqb, eqb-true, eqb-false, ltb-false}
+use Rattle.std.proofs.lemmas.Bool.{lt-ltb, and_from, or_left, eq-eqb, eqb-false, ltb-false}
 use Rattle.std.proofs.lemmas.Bool.Decides.{nat_tests}
-use Rattle.std.proofs.lemmas.Option.{slice_get-get_or, none-some, same_Some}
+use Rattle.std.proofs.lemmas.Option.{slice_get-get_or}
 use Rattle.cal_alloc.specs.Growth.{SegmentLayout, grown_buckets}
-use Rattle.cal_alloc.specs.Hints.{pool_resize_hint, pool_setup_hint, is_in_range}
+use Rattle.cal_alloc.specs.Hints.{pool_resize_hint, pool_setup_hint}
 use Rattle.cal_alloc.specs.Pool.{Pool, pool_refusal}
 use Rattle.cal_alloc.specs.Pool as pool
 use Rattle.cal_alloc.specs.SizeAndAlignment.{SizeAndAlignment}
@@ -20,17 +20,16 @@ use Rattle.cal_alloc.specs.declared.shm_allocator.ShmAllocationError.{ShmAllocat
 use Rattle.cal_names.specs.ConceptSettings.{ConceptSettings, type_part}
 use Rattle.cal_storage.specs.Contents.{Contents, id_at}
 use Rattle.cal_storage.specs.Refusals.{is_too_long}
-use Rattle.cal_shm.specs.Refusals.{create_refusal, alignment_refusal}
+use Rattle.cal_shm.specs.Refusals.{alignment_refusal}
 use Rattle.cal_shm.specs.Segment.{Segment}
 use Rattle.cal_shm.specs.declared.errors.SharedMemoryCreateError.{SharedMemoryCreateError}
 use Rattle.cal_shm.specs.declared.errors.SharedMemoryCreateError.TheVariants as create
 use Rattle.cal_resizable.specs.Chunks.{segment_value}
-use Rattle.cal_resizable.specs.Growth.{may_help, grows, segment_plan, segment_refusal, growth_plan, hint_or_error, plan_refusal, chunk_refusal, allocation_refusal}
+use Rattle.cal_resizable.specs.Growth.{may_help, grows, segment_plan, segment_refusal, hint_or_error, plan_refusal, chunk_refusal, allocation_refusal}
 use Rattle.cal_resizable.specs.Memory.{MemoryState, segment_path}
 use Rattle.cal_resizable.specs.SegmentNameLemmas.{by_digits}
 use Rattle.cal_resizable.specs.SegmentNames.{number_end}
 use Rattle.cal_resizable.specs.Slots.{count_at}
-use Rattle.cal_resizable.specs.Together.{AreTogether}
 use Rattle.cal_resizable.specs.declared.errors.ResizableShmAllocationError.{ResizableShmAllocationError}
 use Rattle.cal_resizable.specs.declared.errors.ResizableShmAllocationError.TheVariants as error
 use Rattle.cal_transport.specs.declared.reply.Refusal.{Refusal}

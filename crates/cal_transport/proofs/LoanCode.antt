@@ -1,65 +1,42 @@
 -- A loan, from what the calls on the memory say.
-use Rattle.std.proofs.Common.{ℕ, ◌+◌, ◌-◌, ◌*◌, ◌/◌, ◌<◌, ◌≤◌, ◌≡◌, ◌≢◌, ◌⊎◌, inl, inr, Bool, true, false, cond, not, ◌||◌, ◌&&◌, nat_eq, nat_lt, nat_le, List, [], ◌∷◌, ◌++◌, length, replicate, Option, Some, None, is_some, IsSome, option_map, Result, Ok, Err, Vec, refl, sym, ap, ◌∙◌, subst, arith, length-append}
+use Rattle.std.proofs.Common.{ℕ, ◌+◌, ◌≡◌, ◌≢◌, ◌⊎◌, inl, inr, Bool, true, false, cond, not, ◌&&◌, nat_eq, Option, Some, None, is_some, IsSome, option_map, Err, refl, sym, ap, ◌∙◌, subst}
 use Rattle.std.specs.Prelude.{IsTrue}
-use Rattle.std.specs.declared.alloc.Global.{Global}
-use Rattle.std.specs.List.{slice_get}
 use Rattle.std.specs.Int.{is_power_of_two}
-use Rattle.std.proofs.lemmas.Bool.{true≢false, and_parts, and_from, eqb-false}
-use Rattle.std.proofs.lemmas.List.{length-set}
-use Rattle.std.proofs.lemmas.Option.{none-some, same_Some}
-use Rattle.cal_alloc.specs.Growth.{SegmentLayout}
+use Rattle.std.proofs.lemmas.Bool.{true≢false, and_from}
 use Rattle.cal_alloc.specs.Hints.{pool_resize_hint}
 use Rattle.cal_alloc.specs.Pool.{Pool, pool_refusal, buckets_within}
-use Rattle.cal_alloc.specs.PointerOffset.{offset_of, segment_of, pointer_offset}
 use Rattle.cal_alloc.specs.SizeAndAlignment.{SizeAndAlignment}
 use Rattle.cal_alloc.specs.declared.pool_allocator.Config.{Config}
 use Rattle.cal_alloc.specs.declared.shm_allocator.SharedMemorySetupHint.{SharedMemorySetupHint}
 use Rattle.cal_alloc.specs.declared.shm_allocator.ShmAllocationError.{ShmAllocationError}
-use Rattle.cal_storage.specs.Contents.{Contents}
 use Rattle.cal_shm.specs.Segment.{Segment}
 use Rattle.cal_shm.specs.declared.errors.SharedMemoryCreateError.TheVariants as create
-use Rattle.cal_resizable.specs.Chunks.{segment_value, GrowsTo}
-use Rattle.cal_resizable.specs.Growth.{may_help, grows, growth_plan, hint_or_error, allocation_refusal, AllocatesHere, AllocatesBy, AllocatesAfter, made_segment, grown_contents, grown_memory, next_number_of_buckets}
-use Rattle.cal_resizable.specs.Memory.{MemoryState, IsSoundMemory, HasAll}
-use Rattle.cal_resizable.specs.Slots.{count_at}
-use Rattle.cal_resizable.specs.Together.{AreTogether}
+use Rattle.cal_resizable.specs.Chunks.{segment_value}
+use Rattle.cal_resizable.specs.Growth.{grows, allocation_refusal, next_number_of_buckets}
 use Rattle.cal_resizable.specs.declared.errors.ResizableShmAllocationError.{ResizableShmAllocationError}
 use Rattle.cal_resizable.specs.declared.errors.ResizableShmAllocationError.TheVariants as error
 use Rattle.cal_transport.specs.declared.command.Command.TheVariants as command
 use Rattle.cal_transport.specs.declared.reply.Reply.{Reply}
-use Rattle.cal_transport.specs.declared.reply.Reply.TheVariants.{Loaned, Refused}
+use Rattle.cal_transport.specs.declared.reply.Reply.TheVariants.{Refused}
 use Rattle.cal_transport.specs.declared.reply.Refusal.{Refusal}
 use Rattle.cal_transport.specs.declared.reply.Refusal.TheVariants as refusal
-use Rattle.cal_transport.specs.declared.reply.Slot.{Slot}
-use Rattle.cal_transport.specs.declared.ported.loaning.LoanError.{LoanError}
 use Rattle.cal_transport.specs.declared.ported.loaning.LoanError.TheVariants as answer
-use Rattle.cal_transport.specs.Ledger.{Ledger, Chunk, layout_at, current, is_live}
+use Rattle.cal_transport.specs.Ledger.{Ledger, current}
 use Rattle.cal_transport.specs.Cause.{current_segment}
 use Rattle.cal_transport.specs.ChunkEntry.{AreBelow}
 use Rattle.cal_transport.specs.CommandsDo.{LoanDoes, LoanRunsOut}
 use Rattle.cal_transport.specs.LoanCause.{is_static, static_cause, growth_cause, serves, next_segment, loan_cause, needs_segment}
 use Rattle.cal_transport.specs.LoanErrors.{CanCome, loan_answer, pool_answer}
-use Rattle.cal_transport.specs.Owning.{IsTableFor, with_table, with_owner, table_at, tables_in}
-use Rattle.cal_transport.specs.Putting.{PutsBytes}
-use Rattle.cal_transport.specs.Served.{RunsOut}
-use Rattle.cal_transport.specs.Shown.{Shows, Tracks, entry_of}
-use Rattle.cal_transport.specs.Soundness.{AreNamed, IsSoundLedger}
+use Rattle.cal_transport.specs.Shown.{entry_of}
+use Rattle.cal_transport.specs.Soundness.{IsSoundLedger}
 use Rattle.cal_transport.specs.State.{TransportState, core_of, IsLinked, Represents, Does}
-use Rattle.cal_transport.specs.Step.{IsStep, after_step, grown_ledger, with_loan_at, IsLoan}
-use Rattle.cal_transport.specs.Weights.{live_in, one_if, total}
 use Rattle.cal_transport.proofs.Fronts.{entry_at}
-use Rattle.cal_transport.proofs.Growing.{sound_grown}
-use Rattle.cal_transport.proofs.GrowthStep.{with_next, grown_shows, grown_tracks}
-use Rattle.cal_transport.proofs.Handed.{Hands, hands}
-use Rattle.cal_transport.proofs.LoanCauses.{AreAlike, HasCurrent, seen_as, has_current, shown_current, alike, even, next_makeable, next_hint, growing_is}
-use Rattle.cal_transport.proofs.LoanGrowth.{grows_at}
-use Rattle.cal_transport.proofs.LoanLent.{new_entry, lent_state, owes, lent_shows_loan, lent_tracks_loan}
-use Rattle.cal_transport.proofs.NextBuckets.{AreMakeable, hint_for, fresh, cut}
+use Rattle.cal_transport.proofs.LoanCauses.{AreAlike, HasCurrent, seen_as, has_current, alike, even, growing_is}
 use Rattle.cal_transport.proofs.PoolCauses.{static_is, serves_is}
 use Rattle.cal_transport.proofs.PoolRules.{pool_rules}
-use Rattle.cal_transport.proofs.Settled.{IsSettled, settled}
+use Rattle.cal_transport.proofs.Settled.{settled}
 use Rattle.cal_transport.proofs.Sound.{sound_step}
-use Rattle.cal_transport.proofs.Stands.{Steps, refused, done}
+use Rattle.cal_transport.proofs.Stands.{Steps, refused}
 
 -- ---- every ledger that the transport stands for, at the place of the loan
 

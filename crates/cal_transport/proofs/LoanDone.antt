@@ -1,5 +1,5 @@
 -- A loan that hands a bucket out, from what the calls on the memory say.
-use Rattle.std.proofs.Common.{ℕ, ◌+◌, ◌-◌, ◌*◌, ◌/◌, ◌<◌, ◌≤◌, ◌≡◌, ◌≢◌, Bool, true, false, cond, not, ◌||◌, ◌&&◌, nat_eq, nat_le, List, [], ◌∷◌, ◌++◌, length, set, replicate, Option, Some, None, is_some, option_map, Result, Ok, Err, Vec, refl, sym, ap, ◌∙◌, subst, arith, length-append}
+use Rattle.std.proofs.Common.{ℕ, ◌+◌, ◌-◌, ◌/◌, ◌<◌, ◌≤◌, ◌≡◌, ◌≢◌, Bool, true, false, cond, not, ◌&&◌, nat_eq, List, [], ◌∷◌, ◌++◌, length, set, replicate, Option, Some, None, is_some, IsSome, option_map, Result, Ok, Err, Vec, refl, sym, ap, ◌∙◌, subst, arith, length-append}
 use Rattle.std.specs.declared.alloc.Global.{Global}
 use Rattle.std.specs.Int.{is_power_of_two}
 use Rattle.std.proofs.lemmas.Bool.{true≢false, eqb-false}
@@ -8,46 +8,47 @@ use Rattle.std.proofs.lemmas.Option.{none-some, same_Some}
 use Rattle.cal_alloc.specs.Growth.{SegmentLayout}
 use Rattle.cal_alloc.specs.Hints.{pool_resize_hint}
 use Rattle.cal_alloc.specs.Pool.{Pool, pool_refusal, pool_properties, buckets_within}
-use Rattle.cal_alloc.specs.PointerOffset.{offset_of, segment_of}
+use Rattle.cal_alloc.specs.PointerOffset.{offset_of, segment_of, pointer_offset}
 use Rattle.cal_alloc.specs.SizeAndAlignment.{SizeAndAlignment}
 use Rattle.cal_alloc.specs.declared.pool_allocator.Config.{Config}
 use Rattle.cal_alloc.specs.declared.shm_allocator.SharedMemorySetupHint.{SharedMemorySetupHint}
 use Rattle.cal_alloc.specs.declared.shm_allocator.ShmAllocationError.{ShmAllocationError}
 use Rattle.cal_storage.specs.Contents.{Contents}
-use Rattle.cal_shm.specs.Calls.{IsChunkWithin}
+use Rattle.cal_shm.specs.Calls.{IsInPayload, IsChunkWithin}
 use Rattle.cal_shm.specs.Segment.{Segment, with_allocator}
 use Rattle.cal_resizable.specs.Chunks.{segment_value, GrowsTo}
-use Rattle.cal_resizable.specs.Growth.{OfSegment, may_help, grows, growth_plan, hint_or_error, allocation_refusal, AllocatesBy, AllocatesAfter, made_segment, grown_contents, grown_memory, next_number_of_buckets}
+use Rattle.cal_resizable.specs.Growth.{OfSegment, may_help, grows, growth_plan, hint_or_error, AllocatesBy, AllocatesAfter, made_segment, grown_contents, grown_memory, next_number_of_buckets}
 use Rattle.cal_resizable.specs.Memory.{MemoryState, IsSoundMemory}
+use Rattle.cal_resizable.specs.Slots.{segment_at, count_at}
 use Rattle.cal_resizable.specs.declared.errors.ResizableShmAllocationError.{ResizableShmAllocationError}
 use Rattle.cal_resizable.specs.declared.errors.ResizableShmAllocationError.TheVariants as error
 use Rattle.cal_transport.specs.declared.command.Command.TheVariants as command
-use Rattle.cal_transport.specs.declared.reply.Refusal.{Refusal}
+use Rattle.cal_transport.specs.declared.reply.Slot.{Slot}
 use Rattle.cal_transport.specs.declared.reply.Reply.TheVariants.{Loaned}
-use Rattle.cal_transport.specs.Ledger.{Ledger}
+use Rattle.cal_transport.specs.declared.ported.chunk_entry.ChunkEntry.{ChunkEntry}
+use Rattle.cal_transport.specs.Ledger.{Ledger, layout_at}
 use Rattle.cal_transport.specs.Cause.{current_segment}
 use Rattle.cal_transport.specs.ChunkEntry.{AreBelow}
 use Rattle.cal_transport.specs.LoanCause.{is_static, serves, next_segment, loan_cause}
-use Rattle.cal_transport.specs.Owning.{IsTableFor, StartsBucket, with_table, with_owner, table_at, tables_in}
+use Rattle.cal_transport.specs.Owning.{IsTableFor, with_table, with_owner, table_at, tables_in}
 use Rattle.cal_transport.specs.Putting.{PutsBytes}
 use Rattle.cal_transport.specs.Settings.{is_too_large}
-use Rattle.cal_transport.specs.Shown.{Shows, Tracks}
-use Rattle.cal_transport.specs.Soundness.{IsSoundLedger}
-use Rattle.cal_transport.specs.State.{TransportState, core_of, IsLinked, Represents, Does}
+use Rattle.cal_transport.specs.Shown.{ShowsActive, Shows, Tracks}
+use Rattle.cal_transport.specs.State.{TransportState, active_of, core_of, IsLinked, Represents, Does}
 use Rattle.cal_transport.specs.Step.{grown_ledger, with_loan_at}
 use Rattle.cal_transport.proofs.Growing.{sound_grown}
 use Rattle.cal_transport.proofs.GrowthStep.{with_next, grown_shows, grown_tracks}
 use Rattle.cal_transport.proofs.Handed.{Hands, hands}
-use Rattle.cal_transport.proofs.LoanCauses.{AreAlike, HasCurrent, seen_as, has_current, shown_current, alike, next_makeable, next_hint, growing_is}
+use Rattle.cal_transport.proofs.LoanCauses.{seen_as, shown_current, next_makeable, next_hint, growing_is}
 use Rattle.cal_transport.proofs.LoanCode.{sound_at, loan_done_does}
-use Rattle.cal_transport.proofs.LoanGrowth.{grows_at, grown_state}
-use Rattle.cal_transport.proofs.LoanLent.{lent_state, owes, lent_shows_loan, lent_tracks_loan}
+use Rattle.cal_transport.proofs.LoanGrowth.{grows_at}
+use Rattle.cal_transport.proofs.LoanLent.{new_entry, owes, lent_shows_loan, lent_tracks_loan}
 use Rattle.cal_transport.proofs.NextBuckets.{AreMakeable, hint_for, fresh, cut}
 use Rattle.cal_transport.proofs.PoolCauses.{serves_is}
 use Rattle.cal_transport.proofs.PoolRules.{pool_rules}
-use Rattle.cal_transport.proofs.Segments.{of_shown}
-use Rattle.cal_transport.proofs.Settled.{IsSettled, settled}
-use Rattle.cal_transport.proofs.Stands.{Steps, done}
+use Rattle.cal_transport.proofs.Segments.{of_shown, from_shown, shown_held}
+use Rattle.cal_transport.proofs.Settled.{settled}
+use Rattle.cal_transport.proofs.Stands.{done}
 
 -- ---- the plan of a growth
 
@@ -282,115 +283,162 @@ module _ (t : TransportState) (linked : IsLinked t) (name size alignment : ℕ) 
   left_size : (with_allocator b.given.was b.given.left).allocator.buckets.size ≡ b.given.was.allocator.buckets.size
   left_size = ap (λ (p : Pool). p.buckets.size) b.given.given.after
 
-  -- the bucket that was handed out can be cleared
-  pub starts_bucket : OfSegment handed memory.slots (segment_of pointer)
-      (λ s. IsChunkWithin pool_properties s (record { size = size; alignment = alignment }) pointer) →
-      StartsBucket handed memory (segment_of pointer) (offset_of pointer)
-  starts_bucket within =
-      let there = ap (segment_value handed memory.slots) b.given.carries ∙ b.given.becomes in
-      record {
-        segment = with_allocator b.given.was b.given.left;
-        there = there;
-        positive = subst (λ n. 1 ≤ n) (sym left_size) (let some = b.given.given.sound.not_empty in omega arith);
-        within = of_shown handed memory.slots (segment_of pointer)
-            (λ s. IsChunkWithin pool_properties s (record { size = size; alignment = alignment }) pointer)
-            (with_allocator b.given.was b.given.left) within there;
-      }
+  -- the segment of the bucket, which was handed out
+  handed_there : segment_value handed memory.slots (segment_of pointer)
+      ≡ Some (with_allocator b.given.was b.given.left)
+  handed_there = ap (segment_value handed memory.slots) b.given.carries ∙ b.given.becomes
 
-  module _ (starts : StartsBucket handed memory (segment_of pointer) (offset_of pointer))
-      (cleared : Contents (Segment Pool))
-      (put : PutsBytes memory t.view handed (segment_of pointer) (offset_of pointer)
-      (replicate starts.segment.allocator.buckets.size 0) cleared)
-      (bucket : ℕ) (bucket_is : bucket ≡ offset_of pointer / starts.segment.allocator.buckets.size)
-      (spare tables : ℕ) (room : t.spare_tables ≡ tables + tables_in table) where
-    size_there : starts.segment.allocator.buckets.size ≡ b.given.was.allocator.buckets.size
-    size_there =
-        ap (λ (s : Segment Pool). s.allocator.buckets.size)
-        (same_Some starts.segment (with_allocator b.given.was b.given.left)
-        (sym starts.there ∙ ap (segment_value handed memory.slots) b.given.carries ∙ b.given.becomes))
-        ∙ left_size
+  pub handed_held : IsSome (segment_at memory.slots (segment_of pointer))
+  handed_held = shown_held handed memory.slots (segment_of pointer) (with_allocator b.given.was b.given.left)
+      handed_there
 
-    abbrev m : TransportState
-    m = between_state t b.contents b.grown table
+  module _ (bucket_size : ℕ) (size_is : (s : Segment Pool) →
+      segment_value handed memory.slots (segment_of pointer) ≡ Some s → bucket_size ≡ s.allocator.buckets.size) where
+    size_there : bucket_size ≡ b.given.was.allocator.buckets.size
+    size_there = size_is (with_allocator b.given.was b.given.left) handed_there ∙ left_size
 
-    put_there : PutsBytes memory t.view handed (segment_of pointer) (offset_of pointer)
-        (replicate b.given.was.allocator.buckets.size 0) cleared
-    put_there = subst (λ n. PutsBytes memory t.view handed (segment_of pointer) (offset_of pointer) (replicate n 0)
-        cleared) size_there put
+    pub some_size : 0 < bucket_size
+    some_size = let some = b.given.given.sound.not_empty in let same = size_there in omega arith
+
+    -- the bucket lies in the payload
+    pub clears_within : OfSegment handed memory.slots (segment_of pointer)
+        (λ s. IsChunkWithin pool_properties s (record { size = size; alignment = alignment }) pointer) →
+        OfSegment handed memory.slots (segment_of pointer)
+        (λ s. IsInPayload s.payload (offset_of pointer) bucket_size)
+    clears_within within =
+        from_shown handed memory.slots (segment_of pointer)
+        (λ s. IsInPayload s.payload (offset_of pointer) bucket_size)
+        (with_allocator b.given.was b.given.left) handed_there
+        (subst (λ n. offset_of pointer + n ≤ length b.given.was.payload)
+        (sym (size_is (with_allocator b.given.was b.given.left) handed_there))
+        (of_shown handed memory.slots (segment_of pointer)
+        (λ s. IsChunkWithin pool_properties s (record { size = size; alignment = alignment }) pointer)
+        (with_allocator b.given.was b.given.left) within handed_there))
+
+    abbrev pub bucket : ℕ
+    bucket = offset_of pointer / bucket_size
 
     bucket_there : bucket ≡ offset_of pointer / b.given.was.allocator.buckets.size
-    bucket_there = bucket_is ∙ ap (λ n. offset_of pointer / n) size_there
+    bucket_there = ap (λ n. offset_of pointer / n) size_there
 
-    abbrev pub loaned_state : TransportState
-    loaned_state = record t {
-      memory_registry = cleared;
-      memory = memory;
-      entries = t.entries ++ (record {
-        name = name;
-        segment = segment_of pointer;
-        bucket = bucket;
-        loaned = true;
-        sent = false;
-        transits = 0;
-      }) ∷ [];
-      owners = with_owner (with_table t.owners table) (segment_of pointer) bucket (length t.entries);
-      spare = spare;
-      spare_tables = tables;
-    }
+    owner_there : bucket < b.given.was.allocator.buckets.count
+    owner_there =
+        subst (λ n. n < b.given.was.allocator.buckets.count)
+        (ap (λ n. n / b.given.was.allocator.buckets.size) (within_segment (offset_of pointer)) ∙ sym bucket_there)
+        b.given.given.exists
+      where
+        within_segment : (offset : ℕ) → offset_of (pointer_offset offset 0) ≡ offset
+        within_segment offset = omega arith
 
-    current_kept : memory.current ≡ b.grown.current
-    current_kept = ap (λ (n : MemoryState). n.current) b.given.memory
+    -- the table of its segment has a place for its owner
+    pub owner_place : (l : Ledger) → Represents t l →
+        bucket < length (table_at (with_table t.owners table) (segment_of pointer))
+    owner_place l r =
+        let after = grown_ledger l size alignment in
+        let shown = b.shows l r in
+        let there = (subst (ShowsActive after b.grown.current)
+        (ap (λ o. active_of o (count_at b.grown.slots b.grown.current)) b.given.origin)
+        (shown.active b.grown.current)).1 in
+        let long : length (table_at (with_table t.owners table) (segment_of pointer))
+        ≡ b.given.was.allocator.buckets.count =
+        ap (λ n. length (table_at (with_table t.owners table) n)) (b.given.carries ∙ shown.current)
+        ∙ (b.tracks l r).table
+        ∙ ap (λ n. (layout_at after n).count) (sym shown.current)
+        ∙ ap (λ (s : SegmentLayout). s.count) (sym there.layout) in
+        subst (λ n. bucket < n) (sym long) owner_there
 
-    owners_long : length (with_owner (with_table t.owners table) (segment_of pointer) bucket (length t.entries))
-        ≡ memory.current + 1
-    owners_long =
-        length-set (with_table t.owners table) (segment_of pointer)
-        (set (table_at (with_table t.owners table) (segment_of pointer)) bucket (length t.entries))
-        ∙ b.tabled ∙ ap (λ n. n + 1) (sym current_kept)
+    module _ (cleared : Contents (Segment Pool))
+        (put : PutsBytes memory t.view handed (segment_of pointer) (offset_of pointer) (replicate bucket_size 0)
+        cleared)
+        (spare tables : ℕ) where
+      abbrev m : TransportState
+      m = between_state t b.contents b.grown table
 
-    tables_long : (o : Option (Vec ℕ Global)) → length (with_table t.owners o) ≡ length t.owners + tables_in o
-    tables_long None = omega arith
-    tables_long (Some more) = length-append t.owners (more.items ∷ [])
+      put_there : PutsBytes memory t.view handed (segment_of pointer) (offset_of pointer)
+          (replicate b.given.was.allocator.buckets.size 0) cleared
+      put_there = subst (λ n. PutsBytes memory t.view handed (segment_of pointer) (offset_of pointer) (replicate n 0)
+          cleared) size_there put
 
-    pub loaned_linked : IsLinked loaned_state
-    loaned_linked = record {
-      together = put.together;
-      strategy = ap (λ (n : MemoryState). n.strategy) b.given.memory ∙ b.strategy ∙ linked.strategy;
-      ports = linked.ports;
-      counts = linked.counts;
-      lent = linked.lent;
-      transits = linked.transits;
-      owners = owners_long;
-      tables = (let now = owners_long in let one = b.tabled in let two = tables_long table in let same = current_kept in
-          let all = linked.tables in omega arith);
-      marks = linked.marks;
-      pairs = linked.pairs;
-    }
+      -- the transport with these entries and tables of owners
+      abbrev pub loaned_state : List ChunkEntry → List (List ℕ) → TransportState
+      loaned_state entries owners = record t {
+        memory_registry = cleared;
+        memory = memory;
+        entries = entries;
+        owners = owners;
+        spare = spare;
+        spare_tables = tables;
+      }
 
-    pub loaned_does : ((l : Ledger) → Represents t l → loan_cause (current_segment l) size alignment ≡ None) →
-        Does t name (command.Loan size alignment) (Loaned (record {
-          chunk = name;
-          segment = segment_of pointer;
-          place = offset_of pointer;
-        })) loaned_state
-    loaned_does none = loan_done_does t name below size alignment loaned_state (Loaned (record {
-      chunk = name;
-      segment = segment_of pointer;
-      place = offset_of pointer;
-    })) (λ l r. (
-        let after = sound_grown l name size alignment (sound_at t name below l r) (none l r) in
-        let g = settled (grown_ledger l size alignment) name after in
-        let tabled : b.grown.current < length (with_table t.owners table) = (let e = b.tabled in omega arith) in
-        done (core_of loaned_state) l (with_loan_at (grown_ledger l size alignment) name (offset_of pointer)) name
-        (command.Loan size alignment) (Loaned (record {
-          chunk = name;
-          segment = segment_of pointer;
-          place = offset_of pointer;
-        })) (none l r)
-        (owes m pointer handed memory b.given cleared put_there name bucket bucket_there spare tables
-        (grown_ledger l size alignment) g after.names (b.shows l r) (b.tracks l r) tabled)
-        refl
-        (lent_shows_loan m pointer handed memory b.given cleared put_there name bucket bucket_there spare tables
-        (grown_ledger l size alignment) g after.names (b.shows l r) (b.tracks l r) tabled)
-        (lent_tracks_loan m pointer handed memory b.given cleared put_there name bucket bucket_there spare tables
-        (grown_ledger l size alignment) g after.names (b.shows l r) (b.tracks l r) tabled)))
+      abbrev pub entries_then : List ChunkEntry
+      entries_then = t.entries ++ new_entry name (segment_of pointer) bucket ∷ []
+
+      abbrev pub owners_then : List (List ℕ)
+      owners_then = with_owner (with_table t.owners table) (segment_of pointer) bucket (length t.entries)
+
+      current_kept : memory.current ≡ b.grown.current
+      current_kept = ap (λ (n : MemoryState). n.current) b.given.memory
+
+      owners_long : length owners_then ≡ memory.current + 1
+      owners_long =
+          length-set (with_table t.owners table) (segment_of pointer)
+          (set (table_at (with_table t.owners table) (segment_of pointer)) bucket (length t.entries))
+          ∙ b.tabled ∙ ap (λ n. n + 1) (sym current_kept)
+
+      tables_long : (o : Option (Vec ℕ Global)) → length (with_table t.owners o) ≡ length t.owners + tables_in o
+      tables_long None = omega arith
+      tables_long (Some more) = length-append t.owners (more.items ∷ [])
+
+      linked_then : t.spare_tables ≡ tables + tables_in table → IsLinked (loaned_state entries_then owners_then)
+      linked_then room = record {
+        together = put.together;
+        strategy = ap (λ (n : MemoryState). n.strategy) b.given.memory ∙ b.strategy ∙ linked.strategy;
+        ports = linked.ports;
+        counts = linked.counts;
+        lent = linked.lent;
+        transits = linked.transits;
+        owners = owners_long;
+        tables = (let now = owners_long in let one = b.tabled in let two = tables_long table in
+            let same = current_kept in let all = linked.tables in omega arith);
+        marks = linked.marks;
+        pairs = linked.pairs;
+      }
+
+      abbrev pub slot : Slot
+      slot = record { chunk = name; segment = segment_of pointer; place = offset_of pointer }
+
+      does_then : ((l : Ledger) → Represents t l → loan_cause (current_segment l) size alignment ≡ None) →
+          Does t name (command.Loan size alignment) (Loaned slot) (loaned_state entries_then owners_then)
+      does_then none = loan_done_does t name below size alignment (loaned_state entries_then owners_then)
+          (Loaned slot) (λ l r. (
+          let after = sound_grown l name size alignment (sound_at t name below l r) (none l r) in
+          let g = settled (grown_ledger l size alignment) name after in
+          let tabled : b.grown.current < length (with_table t.owners table) = (let e = b.tabled in omega arith) in
+          done (core_of (loaned_state entries_then owners_then)) l
+          (with_loan_at (grown_ledger l size alignment) name (offset_of pointer)) name
+          (command.Loan size alignment) (Loaned slot) (none l r)
+          (owes m pointer handed memory b.given cleared put_there name bucket bucket_there spare tables
+          (grown_ledger l size alignment) g after.names (b.shows l r) (b.tracks l r) tabled)
+          refl
+          (lent_shows_loan m pointer handed memory b.given cleared put_there name bucket bucket_there spare tables
+          (grown_ledger l size alignment) g after.names (b.shows l r) (b.tracks l r) tabled)
+          (lent_tracks_loan m pointer handed memory b.given cleared put_there name bucket bucket_there spare tables
+          (grown_ledger l size alignment) g after.names (b.shows l r) (b.tracks l r) tabled)))
+
+      module _ (entries : List ChunkEntry) (entries_are : entries ≡ entries_then) (owners : List (List ℕ))
+          (owners_are : owners ≡ owners_then) where
+        pub loaned_linked : t.spare_tables ≡ tables + tables_in table → IsLinked (loaned_state entries owners)
+        loaned_linked room =
+            subst (λ es. IsLinked (loaned_state es owners)) (sym entries_are)
+            (subst (λ os. IsLinked (loaned_state entries_then os)) (sym owners_are) (linked_then room))
+
+        pub loaned_does : ((l : Ledger) → Represents t l → loan_cause (current_segment l) size alignment ≡ None) →
+            (answered : Slot) → answered ≡ slot →
+            Does t name (command.Loan size alignment) (Loaned answered) (loaned_state entries owners)
+        loaned_does none answered answered_is =
+            subst (λ a. Does t name (command.Loan size alignment) (Loaned a) (loaned_state entries owners))
+            (sym answered_is)
+            (subst (λ es. Does t name (command.Loan size alignment) (Loaned slot) (loaned_state es owners))
+            (sym entries_are)
+            (subst (λ os. Does t name (command.Loan size alignment) (Loaned slot) (loaned_state entries_then os))
+            (sym owners_are) (does_then none)))

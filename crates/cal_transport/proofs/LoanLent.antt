@@ -1,9 +1,8 @@
 -- A bucket is handed out, cleared and entered: a state of the transport that shows a ledger shows it with the new chunk.
-use Rattle.std.proofs.Common.{ℕ, suc, ◌+◌, ◌-◌, ◌*◌, ◌/◌, ◌%◌, ◌<◌, ◌≤◌, ◌≡◌, ◌≢◌, Bool, true, false, not, ◌&&◌, nat_eq, nat_lt, List, [], ◌∷◌, ◌++◌, length, set, get_or, replicate, Option, Some, None, refl, sym, ap, ◌∙◌, subst, arith, mul-le-mul_left}
-use Rattle.std.specs.List.{slice_get}
+use Rattle.std.proofs.Common.{ℕ, ◌+◌, ◌-◌, ◌*◌, ◌/◌, ◌%◌, ◌<◌, ◌≤◌, ◌≡◌, ◌≢◌, Bool, true, false, not, ◌&&◌, nat_eq, nat_lt, [], ◌∷◌, ◌++◌, length, set, get_or, replicate, Some, refl, sym, ap, ◌∙◌, subst, arith}
 use Rattle.std.proofs.Math.Nat.{mul-div_cancel, mul-mod_left}
 use Rattle.std.proofs.lemmas.Bool.{true≢false, and_from, eq-eqb, lt-ltb}
-use Rattle.std.proofs.lemmas.List.{get_or-set_same, get_or-set_other, length-set}
+use Rattle.std.proofs.lemmas.List.{get_or-set_same, get_or-set_other}
 use Rattle.std.proofs.lemmas.Option.{same_Some}
 use Rattle.cal_alloc.specs.Growth.{SegmentLayout}
 use Rattle.cal_alloc.specs.Pool.{Pool, is_used, with_mark, bucket_of}
@@ -22,7 +21,7 @@ use Rattle.cal_transport.specs.Owning.{table_at, with_owner}
 use Rattle.cal_transport.specs.Putting.{PutsBytes}
 use Rattle.cal_transport.specs.Shown.{ShowsSegment, Shows, Tracks}
 use Rattle.cal_transport.specs.Soundness.{AreNamed}
-use Rattle.cal_transport.specs.State.{TransportState, active_of, active_at, core_of}
+use Rattle.cal_transport.specs.State.{TransportState, active_of, core_of}
 use Rattle.cal_transport.specs.Step.{IsLoan, with_loan_at, with_bytes, new_chunk}
 use Rattle.cal_transport.proofs.Settled.{IsSettled}
 use Rattle.cal_transport.proofs.LendStep.{LendsAt, lent_shows, lent_tracks}
@@ -38,6 +37,14 @@ new_entry name segment bucket = record {
   loaned = true;
   sent = false;
   transits = 0;
+}
+
+-- where the chunk of an entry lies, by its pointer
+abbrev pub slot_of_entry : ChunkEntry → ℕ → Slot
+slot_of_entry entry pointer = record {
+  chunk = entry.name;
+  segment = segment_of pointer;
+  place = offset_of pointer;
 }
 
 module _ (t : TransportState) (pointer : ℕ) (handed : Contents (Segment Pool)) (memory : MemoryState)

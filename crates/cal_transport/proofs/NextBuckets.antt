@@ -1,24 +1,22 @@
 -- The buckets that memory takes next: what a pool proposes for them, and what such a segment has.
 use Rattle.std.proofs.Common.{ℕ, zero, suc, ◌+◌, ◌-◌, ◌*◌, ◌/◌, ◌%◌, ◌^◌, ◌<◌, ◌≤◌, ◌≡◌, max, inl, inr, Bool, true, false, cond, not, ◌||◌, ◌&&◌, nat_lt, nat_le, nat_eq, Option, Some, None, length, replicate, refl, sym, ap, ◌∙◌, subst, arith}
 use Rattle.std.proofs.Math.Nat.{sub-zero, mod_self, mul_comm, mul-div_cancel, mul-le-mul_left}
-use Rattle.std.proofs.lemmas.Bool.{true≢false, cases_lt, and_parts, lt-ltb, leb-true}
+use Rattle.std.proofs.lemmas.Bool.{true≢false, cases_lt, and_parts, leb-true}
 use Rattle.std.proofs.lemmas.Bool.Decides.{nat_tests}
 use Rattle.std.proofs.lemmas.List.{length-replicate}
 use Rattle.cal_alloc.specs.Growth.{SegmentLayout, padded_size, bucket_size_of, least_power_of_two, doubled_to, fits_bucket, raised_size, raised_count, raised_buckets, grown_buckets}
 use Rattle.cal_alloc.specs.Hints.{pool_setup_hint, is_in_range}
-use Rattle.cal_alloc.specs.Pool.{buckets_within, pool_fits, is_used, new_pool}
+use Rattle.cal_alloc.specs.Pool.{buckets_within, pool_fits}
 use Rattle.cal_alloc.specs.PoolLaws.{none_used}
 use Rattle.cal_alloc.specs.declared.allocation_strategy.AllocationStrategy.{AllocationStrategy}
 use Rattle.cal_alloc.specs.declared.allocation_strategy.AllocationStrategy.TheVariants.{BestFit, PowerOfTwo, Static}
 use Rattle.cal_alloc.specs.declared.pool_allocator.Config.{Config}
 use Rattle.cal_alloc.specs.declared.shm_allocator.SharedMemorySetupHint.{SharedMemorySetupHint}
-use Rattle.cal_shm.specs.Segment.{new_segment}
 use Rattle.cal_resizable.specs.Growth.{made_segment}
 use Rattle.cal_transport.specs.Settings.{payload, is_too_large}
 use Rattle.cal_transport.specs.LoanCause.{is_static}
 use Rattle.cal_transport.specs.Core.{ActiveSegment}
 use Rattle.cal_transport.specs.Soundness.{HasSizes}
-use Rattle.cal_transport.proofs.Changing.{le_false}
 use Rattle.cal_transport.proofs.Growing.{power_positive, padded_whole}
 use Rattle.cal_transport.proofs.GrowthStep.{IsFresh}
 use Rattle.cal_transport.proofs.PoolRules.{pool_rules}

@@ -1,17 +1,16 @@
 -- A pool that shows the current segment refuses a loan as the ledger does.
-use Rattle.std.proofs.Common.{ℕ, zero, suc, ◌<◌, ◌≤◌, ◌≡◌, inl, inr, Bool, true, false, cond, not, ◌||◌, ◌&&◌, nat_lt, nat_le, List, [], ◌∷◌, ◌++◌, length, get_or, Option, Some, None, is_some, option_map, refl, sym, ap, ◌∙◌, arith}
+use Rattle.std.proofs.Common.{ℕ, zero, suc, ◌<◌, ◌≡◌, inl, inr, Bool, true, false, cond, not, ◌||◌, ◌&&◌, nat_lt, nat_le, List, [], ◌∷◌, length, get_or, Some, None, is_some, option_map, refl, sym, ap, ◌∙◌, arith}
 use Rattle.std.specs.List.{list_any, list_all}
 use Rattle.std.proofs.lemmas.Bool.{true≢false}
 use Rattle.std.proofs.lemmas.Bool.Decides.{nat_tests, eqb_tells}
 use Rattle.std.proofs.lemmas.List.Folds.{list_any-append}
 use Rattle.cal_alloc.specs.Growth.{SegmentLayout, fits_bucket}
-use Rattle.cal_alloc.specs.Pool.{Pool, is_used, pool_refusal}
+use Rattle.cal_alloc.specs.Pool.{is_used, pool_refusal}
 use Rattle.cal_alloc.specs.Pool as pool
 use Rattle.cal_alloc.specs.SizeAndAlignment.{SizeAndAlignment}
 use Rattle.cal_alloc.specs.declared.shm_allocator.ShmAllocationError.{ShmAllocationError}
 use Rattle.cal_alloc.specs.declared.shm_allocator.ShmAllocationError.TheVariants as error
 use Rattle.cal_resizable.specs.Growth.{may_help}
-use Rattle.cal_transport.specs.declared.reply.Refusal.{Refusal}
 use Rattle.cal_transport.specs.declared.reply.Refusal.TheVariants.{ExceedsMaxSupportedAlignment, SizeTooLarge, OutOfMemory}
 use Rattle.cal_transport.specs.Ledger.{Ledger, layout_at, current, is_free, numbers_below}
 use Rattle.cal_transport.specs.LoanCause.{static_cause, serves}

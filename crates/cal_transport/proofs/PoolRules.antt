@@ -1,11 +1,9 @@
 -- The rules of a pool, as those of an allocator.
-use Rattle.std.proofs.Common.{refl, true}
+use Rattle.std.proofs.Common.{true}
 use Rattle.cal_alloc.specs.Hints.{pool_setup_hint, pool_resize_hint}
 use Rattle.cal_alloc.specs.Pool.{Pool, IsSoundPool, pool_fits, buckets_within, new_pool, pool_properties, pool_refusal, GivesFreeBucket, IsUsedBucket, IsInUsedBucket, FreesBucket}
-use Rattle.cal_alloc.specs.PoolLaws.{new_pool-IsNew, initialized_pool-IsInitialized, GivesFreeBucket-IsAllocation, FreesBucket-IsDeallocation, pool_used_below_total, pool_served, pool_aligned, pool_fits_limit, pool_refused_empty}
 use Rattle.cal_alloc.specs.declared.pool_allocator.Config.{Config}
 use Rattle.cal_alloc.specs.declared.shm_allocator.ShmAllocator as shm_allocator
-use Rattle.cal_transport.proofs.NewMemory.{ArePools}
 
 abbrev pub pool_rules : shm_allocator.Ghosts Pool Config
 pool_rules = record {
@@ -25,13 +23,4 @@ pool_rules = record {
   Allocates = λ old _ pointer new. GivesFreeBucket old pointer new;
   IsPadding = λ _ _ _. ⊥;
   Deallocates = FreesBucket;
-}
-
-pub are_pools : ArePools pool_rules
-are_pools = record {
-  setup = λ layout count. refl;
-  fits = λ size config. refl;
-  made = λ alignment size config. refl;
-  aligned = λ pool. refl;
-  ready = λ pool. refl;
 }

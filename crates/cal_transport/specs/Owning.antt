@@ -1,12 +1,7 @@
 -- The tables that lead from the buckets of segments to the entries of their chunks.
-use Rattle.std.specs.Prelude.{◌≡◌, ℕ, ◌+◌, ◌≤◌, Vec, List, [], ◌∷◌, ◌++◌, length, Option, Some, None, IsSome, Result, Ok, Err, slice_index_or, slice_set}
+use Rattle.std.specs.Prelude.{◌≡◌, ℕ, Vec, List, [], ◌∷◌, ◌++◌, length, Option, Some, None, IsSome, Result, Ok, Err, slice_index_or, slice_set}
 use Rattle.std.specs.declared.alloc.AllocError.{AllocError}
 use Rattle.std.specs.declared.alloc.Global.{Global}
-use Rattle.cal_alloc.specs.Pool.{Pool}
-use Rattle.cal_storage.specs.Contents.{Contents}
-use Rattle.cal_shm.specs.Segment.{Segment}
-use Rattle.cal_resizable.specs.Chunks.{segment_value}
-use Rattle.cal_resizable.specs.Memory.{MemoryState}
 
 -- a table for so many buckets, if there are to be some; the want of memory only where there are to be
 abbrev pub IsTableFor : Option ℕ → Result (Option (Vec ℕ Global)) AllocError → Type 0
@@ -31,11 +26,3 @@ table_at tables segment = slice_index_or tables segment []
 -- the tables in which a bucket of a segment leads to an entry
 abbrev pub with_owner : List (List ℕ) → ℕ → ℕ → ℕ → List (List ℕ)
 with_owner tables segment bucket index = slice_set tables segment (slice_set (table_at tables segment) bucket index)
-
--- A pointer is the start of a bucket that lies in the payload of an active segment.
-pub record StartsBucket (contents : Contents (Segment Pool)) (memory : MemoryState) (number offset : ℕ) :
-    Type 0 where
-  pub segment : Segment Pool
-  pub there : segment_value contents memory.slots number ≡ Some segment
-  pub positive : 1 ≤ segment.allocator.buckets.size
-  pub within : offset + segment.allocator.buckets.size ≤ length segment.payload

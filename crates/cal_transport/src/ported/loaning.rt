@@ -1,22 +1,21 @@
 //! How a chunk is loaned.
 
-ghost use Rattle.std.specs.Prelude.{ℕ, ◌≡◌, ◌<◌, ◌≤◌, ◌+◌, ◌-◌, ◌/◌, Some, IsSome, length, map, replicate, vec_items, vec_len, vec_capacity, slice_index_or, slice_set};
+ghost use Rattle.std.specs.Prelude.{◌≡◌, ◌<◌, ◌≤◌, ◌+◌, ◌/◌, true, false, Some, length, map, vec_items, vec_len, vec_capacity};
 ghost use Rattle.cal_alloc.specs.Pool.{Pool};
 ghost use Rattle.cal_alloc.specs.PointerOffset.{segment_of, offset_of};
 ghost use Rattle.cal_shm.specs.Segment.{Segment};
 ghost use Rattle.cal_resizable.specs.Chunks.{segment_value};
 ghost use Rattle.cal_resizable.specs.Growth.{next_number_of_buckets};
 ghost use Rattle.cal_resizable.specs.Memory.{HasAll};
-ghost use Rattle.cal_resizable.specs.Together.{AreTogether};
 ghost use Rattle.cal_transport.specs.ChunkEntry.{AreBelow};
 ghost use Rattle.cal_transport.specs.CommandsDo.{LoanDoes};
 ghost use Rattle.cal_transport.specs.LoanErrors.{CanCome, IsPoolError, loan_answer, pool_answer};
-ghost use Rattle.cal_transport.specs.Owning.{IsTableFor, StartsBucket, table_at, tables_in, with_owner, with_table};
-ghost use Rattle.cal_transport.specs.Putting.{PutsBytes};
+ghost use Rattle.cal_transport.specs.Owning.{IsTableFor, table_at, tables_in, with_owner, with_table};
 ghost use Rattle.cal_transport.specs.Room.{TakesRoomOfOne};
 
 use crate::ported::chunk_entry::{ChunkEntry, Owners};
-use crate::ported::parts::{MemoryRegistry, TransportMemory, TransportView};
+use crate::ported::parts::{MemoryRegistry, TransportMemory};
+use crate::ported::taking_back::slot_at;
 use crate::ported::transport::Transport;
 use crate::ported::writing::{put_zeros, size_at};
 use crate::reply::{Refusal, Slot};
@@ -42,7 +41,6 @@ pub enum LoanError {
 impl Transport {
     /// Loans a chunk of zeros, in any free bucket of the current segment; where that doesn't serve it, another segment
     /// is made, unless the memory is static. The name is greater than all before it, and there is room for its entry.
-    #[tactic(none)]
     pub fn loan(
         &mut self,
         alloc: Global,
@@ -73,29 +71,24 @@ impl Transport {
             Ok(pointer) => pointer.offset,
             Err(error) => return Err(loan_error(error)),
         };
-        let bucket = clear_bucket(&mut self.memory_registry, &self.memory, &self.view, pointer);
         let segment = pointer.segment_id().value();
-        let index = self.entries.len();
+        let bucket_size = size_at(&self.memory, &self.memory_registry, segment);
+        put_zeros(
+            &mut self.memory_registry,
+            &self.memory,
+            &self.view,
+            pointer,
+            bucket_size,
+        );
+        let entry = new_entry(chunk, pointer, bucket_size);
         add_table(&mut self.owners, table);
-        set_owner(&mut self.owners, segment, bucket, index);
-        self.entries.push_reserved(ChunkEntry {
-            name: chunk,
-            segment,
-            bucket,
-            loaned: true,
-            sent: false,
-            transits: 0,
-        });
-        Ok(Slot {
-            chunk,
-            segment,
-            place: pointer.offset(),
-        })
+        set_owner(&mut self.owners, entry, self.entries.len());
+        self.entries.push_reserved(entry);
+        Ok(slot_at(entry, pointer))
     }
 }
 
 /// The table of the buckets of the segment that a loan of this layout makes, if it makes one.
-#[tactic(none)]
 fn next_owners(
     alloc: Global,
     memory: &TransportMemory,
@@ -117,30 +110,29 @@ fn next_owners(
     }
 }
 
-/// Puts zeros into the bucket that starts at a pointer, and tells the bucket's index.
-#[tactic(none)]
-fn clear_bucket(
-    reg: &mut MemoryRegistry,
-    memory: &TransportMemory,
-    view: &TransportView,
-    pointer: PointerOffset,
-) -> usize
-    requires together { AreTogether reg.old memory.now view.now }
-    requires starts { StartsBucket reg.old memory.now (segment_of pointer) (offset_of pointer) }
-    ensures bucket { (b : StartsBucket reg.old memory.now (segment_of pointer) (offset_of pointer)) →
-        result ≡ offset_of pointer / b.segment.allocator.buckets.size }
-    ensures cleared { (b : StartsBucket reg.old memory.now (segment_of pointer) (offset_of pointer)) →
-        PutsBytes memory.now view.now reg.old (segment_of pointer) (offset_of pointer)
-        (replicate b.segment.allocator.buckets.size 0) reg.new }
+/// The entry of a chunk that was just loaned, by its pointer and the size of the buckets there.
+fn new_entry(chunk: usize, pointer: PointerOffset, bucket_size: usize) -> ChunkEntry
+    requires some { 0 < bucket_size }
+    ensures entry { result ≡ record {
+      name = chunk;
+      segment = segment_of pointer;
+      bucket = offset_of pointer / bucket_size;
+      loaned = true;
+      sent = false;
+      transits = 0;
+    } }
 {
-    a_memory_stays_with_its_view::<PoolAllocator>();
-    let size = size_at(memory, reg, pointer.segment_id().value());
-    put_zeros(reg, memory, view, pointer, size);
-    pointer.offset() / size
+    ChunkEntry {
+        name: chunk,
+        segment: pointer.segment_id().value(),
+        bucket: pointer.offset() / bucket_size,
+        loaned: true,
+        sent: false,
+        transits: 0,
+    }
 }
 
 /// Adds the table of a new segment, if there is one.
-#[tactic(none)]
 fn add_table(owners: &mut Vec<Owners>, table: Option<Owners>)
     requires room { vec_len owners.old + tables_in table ≤ vec_capacity owners.old }
     ensures owners { map vec_items owners.new.items ≡ with_table (map vec_items owners.old.items) table }
@@ -152,20 +144,18 @@ fn add_table(owners: &mut Vec<Owners>, table: Option<Owners>)
     }
 }
 
-/// A bucket of a segment leads to the entry at an index.
-#[tactic(none)]
-fn set_owner(owners: &mut Vec<Owners>, segment: u8, bucket: usize, index: usize)
-    requires place { bucket < length (table_at (map vec_items owners.old.items) segment) }
+/// The bucket of an entry leads to the entry's index.
+fn set_owner(owners: &mut Vec<Owners>, entry: ChunkEntry, index: usize)
+    requires place { entry.bucket < length (table_at (map vec_items owners.old.items) entry.segment) }
     ensures owners { map vec_items owners.new.items
-        ≡ with_owner (map vec_items owners.old.items) segment bucket index }
+        ≡ with_owner (map vec_items owners.old.items) entry.segment entry.bucket index }
     ensures len { vec_len owners.new ≡ vec_len owners.old }
     ensures capacity { vec_capacity owners.new ≡ vec_capacity owners.old }
 {
-    owners[segment as usize][bucket] = index;
+    owners[entry.segment as usize][entry.bucket] = index;
 }
 
 /// The refusal of the same name as the memory's; only memory that grows runs out.
-#[tactic(none)]
 fn loan_error(error: ResizableShmAllocationError) -> LoanError
     requires comes { CanCome error }
     ensures answer { result ≡ loan_answer error }

@@ -5,7 +5,8 @@ use Rattle.cal_resizable.specs.Creation.{MemoryPlan, CreatesMemory, creation_ref
 use Rattle.cal_resizable.specs.Together.{NoneLater}
 use Rattle.cal_transport.specs.Opening.{memory_plan}
 use Rattle.cal_transport.proofs.NewMemory.{memory_error, has_first, named}
-use Rattle.cal_transport.proofs.PoolRules.{pool_rules, are_pools}
+use Rattle.cal_transport.proofs.NewPools.{are_pools}
+use Rattle.cal_transport.proofs.PoolRules.{pool_rules}
 use Rattle.cal_transport.proofs.ported.opening.new_memory.Goals as goal
 
 pub memory_error-requires : goal.memory_error-requires
