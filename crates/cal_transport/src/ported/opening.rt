@@ -53,7 +53,7 @@ pub(crate) fn lent_lists(
     let capacity = settings.segments as usize * settings.samples;
     let mut lists = Vec::with_capacity(alloc, settings.channels)?;
     for _ in 0..settings.channels {
-        lists.push_reserved(UsedChunkList::new(alloc, capacity)?);
+        lists.push(UsedChunkList::new(alloc, capacity)?)?;
     }
     Ok(lists)
 }
