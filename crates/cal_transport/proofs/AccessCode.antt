@@ -5,8 +5,8 @@ use Rattle.cal_alloc.specs.Pool.{Pool}
 use Rattle.cal_shm.specs.Segment.{Segment}
 use Rattle.cal_resizable.specs.Chunks.{segment_value}
 use Rattle.cal_resizable.specs.Slots.{segment_at}
-use Rattle.cal_transport.specs.declared.ported.chunk_entry.ChunkEntry.{ChunkEntry}
-use Rattle.cal_transport.specs.declared.ported.chunk_entry.Found.{Found}
+use Rattle.cal_transport.specs.declared.transport.chunk_entry.ChunkEntry.{ChunkEntry}
+use Rattle.cal_transport.specs.declared.transport.chunk_entry.Found.{Found}
 use Rattle.cal_transport.specs.Ledger.{Ledger, is_live}
 use Rattle.cal_transport.specs.ChunkEntry.{HasNoEntry, IsFound}
 use Rattle.cal_transport.specs.ChunkTold.{TellsChunk, record_of, record_where_live}

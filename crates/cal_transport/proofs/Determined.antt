@@ -11,9 +11,9 @@ use Rattle.cal_alloc.specs.Pool.{Pool}
 use Rattle.cal_alloc.specs.PointerOffset.{offset_of, segment_of, pointer_offset}
 use Rattle.cal_queue.specs.UsedChunks.{UsedChunks, contains, capacity_of}
 use Rattle.cal_transport.specs.declared.settings.Settings.{Settings}
-use Rattle.cal_transport.specs.declared.ported.chunk_entry.ChunkEntry.{ChunkEntry}
+use Rattle.cal_transport.specs.declared.transport.chunk_entry.ChunkEntry.{ChunkEntry}
 use Rattle.cal_transport.specs.Ledger.{Ledger, Chunk, ChannelHistory, layout_at, current, chunk_named, has_name, occurrences, received_names, queued_names, completed_names, is_live, is_in_transit, is_borrowed, is_unused}
-use Rattle.cal_transport.specs.Parts.{weight, IsOrderly}
+use Rattle.cal_transport.specs.Soundness.{weight, IsOrderly}
 use Rattle.cal_transport.specs.Weights.{total, one_if, transits, holds, lies_in, transits_on, transits_in}
 use Rattle.cal_transport.specs.Core.{Core, ActiveSegment}
 use Rattle.cal_transport.specs.Shown.{is_active, Shows, Tracks, TracksChannel, ShowsSegment, pointer_to, pointer_of, pointer_named, entry_of}

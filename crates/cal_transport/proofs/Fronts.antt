@@ -8,11 +8,10 @@ use Rattle.std.proofs.Math.Nat.{mul-div_cancel}
 use Rattle.cal_alloc.specs.Growth.{SegmentLayout}
 use Rattle.cal_alloc.specs.PointerOffset.{offset_of, segment_of}
 use Rattle.cal_transport.specs.declared.reply.Slot.{Slot}
-use Rattle.cal_transport.specs.declared.ported.chunk_entry.ChunkEntry.{ChunkEntry}
+use Rattle.cal_transport.specs.declared.transport.chunk_entry.ChunkEntry.{ChunkEntry}
 use Rattle.cal_transport.specs.Ledger.{Ledger, Chunk, ChannelHistory, layout_at, current, chunk_named, is_live, is_in_transit}
-use Rattle.cal_transport.specs.Parts.{weight}
 use Rattle.cal_transport.specs.Step.{front, slot_of, slot_named}
-use Rattle.cal_transport.specs.Soundness.{HasSizes}
+use Rattle.cal_transport.specs.Soundness.{HasSizes, weight}
 use Rattle.cal_transport.specs.ChunkEntry.{LeadsToEntry}
 use Rattle.cal_transport.specs.Weights.{live_in, one_if}
 use Rattle.cal_transport.specs.Core.{Core, ActiveSegment}

@@ -5,8 +5,7 @@ use Rattle.std.proofs.lemmas.Bool.{lt-ltb, ltb-true}
 use Rattle.std.proofs.lemmas.List.{length-set}
 use Rattle.std.proofs.lemmas.Option.{same_Some}
 use Rattle.cal_transport.specs.Ledger.{current, Ledger, Chunk, ChannelHistory, layout_at, is_live, is_in_transit}
-use Rattle.cal_transport.specs.Parts.{weight, IsOrderly}
-use Rattle.cal_transport.specs.Soundness.{LiesWithin, IsSentChunk}
+use Rattle.cal_transport.specs.Soundness.{LiesWithin, IsSentChunk, weight, IsOrderly}
 use Rattle.cal_transport.specs.Weights.{transits}
 use Rattle.cal_transport.specs.Core.{Core}
 use Rattle.cal_transport.specs.Shown.{ShowsActive, ShowsMapped, ShowsChannel, TracksChannel, Shows, Tracks, entry_of}

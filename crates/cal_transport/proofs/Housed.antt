@@ -11,7 +11,7 @@ use Rattle.cal_shm.specs.Segment.{Segment}
 use Rattle.cal_resizable.specs.Chunks.{segment_value}
 use Rattle.cal_resizable.specs.Growth.{OfSegment}
 use Rattle.cal_resizable.specs.Slots.{HeldSegment, segment_at}
-use Rattle.cal_transport.specs.declared.ported.chunk_entry.ChunkEntry.{ChunkEntry}
+use Rattle.cal_transport.specs.declared.transport.chunk_entry.ChunkEntry.{ChunkEntry}
 use Rattle.cal_transport.specs.Ledger.{Ledger, Chunk, layout_at, is_live}
 use Rattle.cal_transport.specs.Pointed.{HasPlace}
 use Rattle.cal_transport.specs.Weights.{transits}

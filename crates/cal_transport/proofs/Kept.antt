@@ -9,7 +9,7 @@ use Rattle.cal_alloc.specs.Pool.{Pool, is_used, with_mark}
 use Rattle.cal_transport.specs.Settings.{payload}
 use Rattle.cal_transport.specs.Ledger.{Ledger, Chunk, layout_at, current, chunk_named, is_live, is_free, is_mapped, has_name}
 use Rattle.cal_transport.specs.Weights.{borrows, one_if, live_in, borrowed_in}
-use Rattle.cal_transport.specs.declared.ported.chunk_entry.ChunkEntry.{ChunkEntry}
+use Rattle.cal_transport.specs.declared.transport.chunk_entry.ChunkEntry.{ChunkEntry}
 use Rattle.cal_transport.specs.Core.{Core, ActiveSegment, without_bucket, if_active, given_back, GivesBack}
 use Rattle.cal_transport.specs.Shown.{is_active, ShowsSegment, ShowsActive, ShowsBytes, ShowsMapped, pointer_to, pointer_of, pointer_named, entry_of}
 use Rattle.cal_transport.proofs.Changing.{mark_here, mark_else}

@@ -8,10 +8,9 @@ use Rattle.cal_alloc.specs.Pool.{is_used, with_mark}
 use Rattle.cal_queue.specs.UsedChunks.{contains, capacity_of}
 use Rattle.cal_connection.specs.Channel as channel
 use Rattle.cal_transport.specs.Ledger.{Ledger, Chunk, ChannelHistory, layout_at, current, is_live, is_free, is_mapped, is_in_transit, is_borrowed, queued_names, completed_names, occurrences, has_name}
-use Rattle.cal_transport.specs.Parts.{weight}
 use Rattle.cal_transport.specs.Step.{new_chunk, with_bytes}
-use Rattle.cal_transport.specs.Soundness.{AreNamed}
-use Rattle.cal_transport.specs.declared.ported.chunk_entry.ChunkEntry.{ChunkEntry}
+use Rattle.cal_transport.specs.Soundness.{AreNamed, weight}
+use Rattle.cal_transport.specs.declared.transport.chunk_entry.ChunkEntry.{ChunkEntry}
 use Rattle.cal_transport.specs.Weights.{lies_in, holds, live_in, borrowed_in, transits, borrows, one_if}
 use Rattle.cal_transport.specs.Core.{Core, ActiveSegment}
 use Rattle.cal_transport.specs.Shown.{is_active, ShowsSegment, ShowsActive, ShowsBytes, ShowsMapped, ShowsChannel, TracksChannel, Shows, Tracks, pointer_of, pointer_named, entry_of, bytes_at}

@@ -4,9 +4,9 @@ use Rattle.std.specs.List.{slice_get, list_any}
 use Rattle.std.proofs.lemmas.Bool.{true≢false, ltb-true, or_right}
 use Rattle.std.proofs.lemmas.Option.{same_Some, none-some}
 use Rattle.cal_queue.specs.UsedChunks.{contains}
-use Rattle.cal_transport.specs.declared.ported.chunk_entry.ChunkEntry.{ChunkEntry}
+use Rattle.cal_transport.specs.declared.transport.chunk_entry.ChunkEntry.{ChunkEntry}
 use Rattle.cal_transport.specs.Ledger.{Ledger, Chunk, ChannelHistory, chunk_named, is_in_transit, is_borrowed}
-use Rattle.cal_transport.specs.Parts.{weight}
+use Rattle.cal_transport.specs.Soundness.{weight}
 use Rattle.cal_transport.specs.Weights.{transits, one_if}
 use Rattle.cal_transport.specs.Core.{Core}
 use Rattle.cal_transport.specs.Shown.{Shows, Tracks}

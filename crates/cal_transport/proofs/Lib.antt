@@ -1,8 +1,6 @@
-pub mod Buckets
 pub mod Capacity
 pub mod Changing
 pub mod Chunks
-pub mod Discarding
 pub mod EachChannel
 pub mod FillRounds
 pub mod Filling
@@ -12,8 +10,6 @@ pub mod Histories
 pub mod Keeping
 pub mod Lending
 pub mod Lists
-pub mod Loaning
-pub mod Lookup
 pub mod Moved
 pub mod Moves
 pub mod Moving
@@ -21,20 +17,12 @@ pub mod Names
 pub mod Numbers
 pub mod Opening
 pub mod Pigeons
-pub mod Reading
-pub mod Receiving
-pub mod Reclaiming
-pub mod Releasing
 pub mod RoundLists
 pub mod Running
-pub mod Sending
 pub mod Sound
 pub mod Steps
 pub mod Telling
-pub mod Transits
-pub mod Update
 pub mod Writes
-pub mod Writing
 pub mod EntryLookup
 pub mod Totals
 pub mod Settled
@@ -89,7 +77,6 @@ pub mod TransitChannels
 pub mod Determined
 pub mod Reaching
 pub mod Standing
-mod Serving
 pub mod FreeCode
 pub mod DiscardCode
 pub mod TransitCounts

@@ -112,16 +112,16 @@ module _ (l : Ledger) (k : ℕ) where
   pub transit_on_few : length (transit_on l k) ≤ transits_on (history_on l k) l.chunks
   transit_on_few =
       let told =
-          length_flat_map (λ segment. flat_map (transit_at l k segment) (numbers_below (layout_at l segment).count))
-          (numbers_below (length l.segments))
-          ∙ total_agree (λ segment. length (flat_map (transit_at l k segment)
-          (numbers_below (layout_at l segment).count)))
-          (λ segment. total (λ chunk. total (λ b. one_if (nat_eq chunk.segment segment && nat_eq chunk.bucket b
-          && moves chunk)) (numbers_below (layout_at l segment).count)) l.chunks)
-          (numbers_below (length l.segments))
-          (λ j segment there. in_one segment)
-          ∙ total_swap (λ segment chunk. total (λ b. one_if (nat_eq chunk.segment segment && nat_eq chunk.bucket b
-          && moves chunk)) (numbers_below (layout_at l segment).count)) (numbers_below (length l.segments)) l.chunks in
+      length_flat_map (λ segment. flat_map (transit_at l k segment) (numbers_below (layout_at l segment).count))
+      (numbers_below (length l.segments))
+      ∙ total_agree (λ segment. length (flat_map (transit_at l k segment)
+      (numbers_below (layout_at l segment).count)))
+      (λ segment. total (λ chunk. total (λ b. one_if (nat_eq chunk.segment segment && nat_eq chunk.bucket b
+      && moves chunk)) (numbers_below (layout_at l segment).count)) l.chunks)
+      (numbers_below (length l.segments))
+      (λ j segment there. in_one segment)
+      ∙ total_swap (λ segment chunk. total (λ b. one_if (nat_eq chunk.segment segment && nat_eq chunk.bucket b
+      && moves chunk)) (numbers_below (layout_at l segment).count)) (numbers_below (length l.segments)) l.chunks in
       let few = total_fewer (λ chunk. total (λ segment. total (λ b. one_if (nat_eq chunk.segment segment
       && nat_eq chunk.bucket b && moves chunk)) (numbers_below (layout_at l segment).count))
       (numbers_below (length l.segments))) (λ chunk. one_if (moves chunk)) l.chunks once in omega arith

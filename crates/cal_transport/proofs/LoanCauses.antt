@@ -34,7 +34,7 @@ use Rattle.cal_resizable.specs.declared.errors.ResizableShmAllocationError.{Resi
 use Rattle.cal_resizable.specs.declared.errors.ResizableShmAllocationError.TheVariants as error
 use Rattle.cal_transport.specs.declared.reply.Refusal.{Refusal}
 use Rattle.cal_transport.specs.declared.reply.Refusal.TheVariants as refusal
-use Rattle.cal_transport.specs.declared.ported.loaning.LoanError.TheVariants as answer
+use Rattle.cal_transport.specs.declared.transport.loaning.LoanError.TheVariants as answer
 use Rattle.cal_transport.specs.Ledger.{Ledger, layout_at, current, is_free, numbers_below}
 use Rattle.cal_transport.specs.LoanCause.{is_static, serves, next_segment, static_cause, growth_cause, loan_cause}
 use Rattle.cal_transport.specs.LoanErrors.{CanCome, loan_answer, pool_answer}

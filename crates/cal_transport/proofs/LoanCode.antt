@@ -20,7 +20,7 @@ use Rattle.cal_transport.specs.declared.reply.Reply.{Reply}
 use Rattle.cal_transport.specs.declared.reply.Reply.TheVariants.{Refused}
 use Rattle.cal_transport.specs.declared.reply.Refusal.{Refusal}
 use Rattle.cal_transport.specs.declared.reply.Refusal.TheVariants as refusal
-use Rattle.cal_transport.specs.declared.ported.loaning.LoanError.TheVariants as answer
+use Rattle.cal_transport.specs.declared.transport.loaning.LoanError.TheVariants as answer
 use Rattle.cal_transport.specs.Ledger.{Ledger, current}
 use Rattle.cal_transport.specs.Cause.{current_segment}
 use Rattle.cal_transport.specs.ChunkEntry.{AreBelow}

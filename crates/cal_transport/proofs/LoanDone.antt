@@ -25,7 +25,7 @@ use Rattle.cal_resizable.specs.declared.errors.ResizableShmAllocationError.TheVa
 use Rattle.cal_transport.specs.declared.command.Command.TheVariants as command
 use Rattle.cal_transport.specs.declared.reply.Slot.{Slot}
 use Rattle.cal_transport.specs.declared.reply.Reply.TheVariants.{Loaned}
-use Rattle.cal_transport.specs.declared.ported.chunk_entry.ChunkEntry.{ChunkEntry}
+use Rattle.cal_transport.specs.declared.transport.chunk_entry.ChunkEntry.{ChunkEntry}
 use Rattle.cal_transport.specs.Ledger.{Ledger, layout_at}
 use Rattle.cal_transport.specs.Cause.{current_segment}
 use Rattle.cal_transport.specs.ChunkEntry.{AreBelow}

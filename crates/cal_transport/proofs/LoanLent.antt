@@ -14,7 +14,7 @@ use Rattle.cal_resizable.specs.Memory.{MemoryState}
 use Rattle.cal_resizable.specs.Slots.{count_at}
 use Rattle.cal_transport.specs.declared.reply.Slot.{Slot}
 use Rattle.cal_transport.specs.declared.reply.Reply.TheVariants.{Loaned}
-use Rattle.cal_transport.specs.declared.ported.chunk_entry.ChunkEntry.{ChunkEntry}
+use Rattle.cal_transport.specs.declared.transport.chunk_entry.ChunkEntry.{ChunkEntry}
 use Rattle.cal_transport.specs.Ledger.{Ledger, layout_at, current, is_free}
 use Rattle.cal_transport.specs.Core.{ActiveSegment}
 use Rattle.cal_transport.specs.Owning.{table_at, with_owner}

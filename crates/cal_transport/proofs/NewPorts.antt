@@ -37,8 +37,14 @@ same_flag true = refl
 same_flag false = refl
 
 agreed : (s : ConnectionSettings) → incompatibility s s ≡ None
-agreed s = rw (same_number s.buffer_size, same_number (completion_size s), same_flag s.enable_safe_overflow,
-    same_number s.number_of_samples, same_number s.number_of_segments, same_number s.number_of_channels) refl
+agreed s = rw (
+  same_number s.buffer_size,
+  same_number (completion_size s),
+  same_flag s.enable_safe_overflow,
+  same_number s.number_of_samples,
+  same_number s.number_of_segments,
+  same_number s.number_of_channels,
+) refl
 
 module _ (s : Settings) (can : CanOpen s) where
   abbrev plan : ConnectionPlan

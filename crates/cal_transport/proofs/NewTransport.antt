@@ -109,15 +109,17 @@ module _ (t : TransportState) (new : IsNewState t) where
 
   shows_active : (segment : ℕ) → ShowsActive l segment (active_at t.memory_registry t.memory.slots segment)
   shows_active zero =
-      subst (ShowsActive l 0) (sym new.parts.segments.first)
-      (refl, record {
-        layout = refl;
-        used = λ bucket. everywhere t.settings.count bucket false;
-        marks = length-replicate t.settings.count false;
-        chunks = refl;
-        payload = at_least (length (replicate (payload (first_layout t.settings)) 0)) (payload (first_layout t.settings))
-            (length-replicate (payload (first_layout t.settings)) 0);
-      })
+      subst (ShowsActive l 0) (sym new.parts.segments.first) (
+        refl,
+        record {
+          layout = refl;
+          used = λ bucket. everywhere t.settings.count bucket false;
+          marks = length-replicate t.settings.count false;
+          chunks = refl;
+          payload = at_least (length (replicate (payload (first_layout t.settings)) 0)) (payload (first_layout t.settings))
+              (length-replicate (payload (first_layout t.settings)) 0);
+        },
+      )
   shows_active (suc n) =
       subst (ShowsActive l (suc n)) (sym (new.parts.segments.others (suc n) (λ e. absurd (omega (arith, e)))))
       (ap (λ b. b && (suc n == current l || not (is_unused l (suc n)))) (let past : nat_lt (suc n) 1 ≡ false = grind (arith, nat_tests) in past))

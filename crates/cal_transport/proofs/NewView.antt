@@ -33,10 +33,12 @@ module _ {T : Type 0} (contents : Contents T) (id : ℕ) where
     where
       ended : (slot : Slot T) → slot ≡ Ended → slot_with_holder slot ≡ Ended
       ended slot e = ap slot_with_holder e
+
       held : (slot : Slot T) → option_map (λ (entry : Entry T). entry.value) (entry_in (slot_with_holder slot))
           ≡ option_map (λ (entry : Entry T). entry.value) (entry_in slot)
       held Ended = refl
       held (Kept entry) = refl
+
       here : value_of (after_opening contents id) id ≡ value_of contents id
       here =
           ap (λ slot. option_map (λ (entry : Entry T). entry.value) (entry_in slot))

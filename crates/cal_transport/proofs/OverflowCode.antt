@@ -20,9 +20,9 @@ use Rattle.cal_resizable.specs.Memory.{MemoryState}
 use Rattle.cal_resizable.specs.Slots.{count_at as slots_count}
 use Rattle.cal_transport.specs.declared.command.Command.TheVariants as command
 use Rattle.cal_transport.specs.declared.reply.Reply.TheVariants.{Sent}
-use Rattle.cal_transport.specs.declared.ported.chunk_entry.ChunkEntry.{ChunkEntry}
-use Rattle.cal_transport.specs.declared.ported.chunk_entry.Found.{Found}
-use Rattle.cal_transport.specs.declared.ported.sender.Sample.{Sample}
+use Rattle.cal_transport.specs.declared.transport.chunk_entry.ChunkEntry.{ChunkEntry}
+use Rattle.cal_transport.specs.declared.transport.chunk_entry.Found.{Found}
+use Rattle.cal_transport.specs.declared.transport.sender.Sample.{Sample}
 use Rattle.cal_transport.specs.Ledger.{Ledger, layout_at, is_live, is_in_transit, queued_names}
 use Rattle.cal_transport.specs.Sample.{IsSample}
 use Rattle.cal_transport.specs.Pointed.{PointsTo}

@@ -6,7 +6,7 @@ use Rattle.cal_alloc.specs.Growth.{SegmentLayout}
 use Rattle.cal_alloc.specs.Limits.{max_memory_size}
 use Rattle.cal_alloc.specs.PointerOffset.{pointer_offset}
 use Rattle.cal_alloc.specs.Pool.{Pool}
-use Rattle.cal_transport.specs.declared.ported.chunk_entry.ChunkEntry.{ChunkEntry}
+use Rattle.cal_transport.specs.declared.transport.chunk_entry.ChunkEntry.{ChunkEntry}
 use Rattle.cal_transport.specs.Ledger.{Ledger, Chunk, layout_at, is_live}
 use Rattle.cal_transport.specs.Pointed.{HasPlace}
 use Rattle.cal_transport.specs.Shown.{Shows, pointer_to, entry_of}

@@ -14,7 +14,7 @@ use Rattle.cal_transport.specs.declared.settings.Settings.{Settings}
 use Rattle.cal_transport.specs.declared.reply.Reply.{Reply}
 use Rattle.cal_transport.specs.declared.reply.Reply.TheVariants.{Shown, Refused}
 use Rattle.cal_transport.specs.declared.reply.Refusal.TheVariants as refusal
-use Rattle.cal_transport.specs.declared.ported.chunk_entry.Found.{Found}
+use Rattle.cal_transport.specs.declared.transport.chunk_entry.Found.{Found}
 use Rattle.cal_transport.specs.Ledger.{Ledger, is_borrowed}
 use Rattle.cal_transport.specs.ChunkEntry.{HasNoEntry, IsFound}
 use Rattle.cal_transport.specs.Pointed.{HasPlace}

@@ -12,7 +12,7 @@ use Rattle.cal_transport.specs.declared.reply.Reply.{Reply}
 use Rattle.cal_transport.specs.declared.reply.Reply.TheVariants.{Received, Refused}
 use Rattle.cal_transport.specs.declared.reply.Refusal.TheVariants.{OutsideConnection, ReceiveWouldExceedMaxBorrowValue}
 use Rattle.cal_transport.specs.Ledger.{Ledger, ChannelHistory, history_on, is_live, is_in_transit, borrow_count, queued_names}
-use Rattle.cal_transport.specs.Parts.{IsOrderly}
+use Rattle.cal_transport.specs.Soundness.{IsOrderly}
 use Rattle.cal_transport.specs.Cause.{receive_cause}
 use Rattle.cal_transport.specs.Step.{with_history, history_after_receive, front, slot_named, opened_after_receive, chunk_to_receive, after_command}
 use Rattle.cal_transport.specs.Weights.{transits, borrows, one_if}

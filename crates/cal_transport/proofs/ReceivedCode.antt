@@ -16,7 +16,7 @@ use Rattle.cal_resizable.specs.View.{View}
 use Rattle.cal_transport.specs.declared.command.Command.TheVariants as command
 use Rattle.cal_transport.specs.declared.settings.Settings.{Settings}
 use Rattle.cal_transport.specs.declared.reply.Reply.TheVariants.{Received}
-use Rattle.cal_transport.specs.declared.ported.chunk_entry.ChunkEntry.{ChunkEntry}
+use Rattle.cal_transport.specs.declared.transport.chunk_entry.ChunkEntry.{ChunkEntry}
 use Rattle.cal_transport.specs.Ledger.{Ledger, is_live, is_borrowed, queued_names}
 use Rattle.cal_transport.specs.Pointed.{PointsTo}
 use Rattle.cal_transport.specs.Shown.{ShowsMapped, entry_of}

@@ -11,7 +11,7 @@ use Rattle.cal_transport.specs.declared.reply.Reply.{Reply}
 use Rattle.cal_transport.specs.declared.reply.Reply.TheVariants.{Reclaimed, Refused}
 use Rattle.cal_transport.specs.declared.reply.Refusal.TheVariants.{OutsideConnection}
 use Rattle.cal_transport.specs.Ledger.{Ledger, Chunk, ChannelHistory, history_on, layout_at, is_in_transit, completed_names}
-use Rattle.cal_transport.specs.Parts.{weight, IsOrderly}
+use Rattle.cal_transport.specs.Soundness.{weight, IsOrderly}
 use Rattle.cal_transport.specs.Cause.{reclaim_cause}
 use Rattle.cal_transport.specs.Step.{with_history, history_after_reclaim, front, slot_named, after_command}
 use Rattle.cal_transport.specs.Core.{Core}

@@ -20,8 +20,8 @@ use Rattle.cal_transport.specs.declared.settings.Settings.{Settings}
 use Rattle.cal_transport.specs.declared.reply.Reply.{Reply}
 use Rattle.cal_transport.specs.declared.reply.Reply.TheVariants.{Released, Refused}
 use Rattle.cal_transport.specs.declared.reply.Refusal.TheVariants as refusal
-use Rattle.cal_transport.specs.declared.ported.chunk_entry.ChunkEntry.{ChunkEntry}
-use Rattle.cal_transport.specs.declared.ported.chunk_entry.Found.{Found}
+use Rattle.cal_transport.specs.declared.transport.chunk_entry.ChunkEntry.{ChunkEntry}
+use Rattle.cal_transport.specs.declared.transport.chunk_entry.Found.{Found}
 use Rattle.cal_transport.specs.Settings.{completion_size}
 use Rattle.cal_transport.specs.Ledger.{Ledger, is_borrowed, completed_names}
 use Rattle.cal_transport.specs.ChunkEntry.{HasNoEntry, IsFound}

@@ -12,7 +12,7 @@ use Rattle.cal_transport.specs.declared.reply.Reply.TheVariants.{Released, Refus
 use Rattle.cal_transport.specs.declared.reply.Refusal.TheVariants.{OutsideConnection, NotBorrowed, RetrieveBufferFull}
 use Rattle.cal_transport.specs.Settings.{completion_size}
 use Rattle.cal_transport.specs.Ledger.{Ledger, Chunk, ChannelHistory, history_on, is_live, is_in_transit, is_borrowed, completed_names}
-use Rattle.cal_transport.specs.Parts.{IsOrderly}
+use Rattle.cal_transport.specs.Soundness.{IsOrderly}
 use Rattle.cal_transport.specs.Cause.{release_cause}
 use Rattle.cal_transport.specs.Step.{with_history, history_after_release, after_command}
 use Rattle.cal_transport.specs.Weights.{transits, borrows, one_if}

@@ -5,7 +5,7 @@ use Rattle.std.proofs.lemmas.Option.{same_Some, none-some}
 use Rattle.cal_transport.specs.declared.command.Command.{Command}
 use Rattle.cal_transport.specs.declared.reply.Reply.{Reply}
 use Rattle.cal_transport.specs.declared.settings.Settings.{Settings}
-use Rattle.cal_transport.specs.declared.ported.chunk_entry.ChunkEntry.{ChunkEntry}
+use Rattle.cal_transport.specs.declared.transport.chunk_entry.ChunkEntry.{ChunkEntry}
 use Rattle.cal_transport.specs.ChunkEntry.{AreBelow}
 use Rattle.cal_transport.specs.declared.command.Command.TheVariants as command
 use Rattle.cal_transport.specs.declared.reply.Reply.TheVariants.{Shown as Bytes}

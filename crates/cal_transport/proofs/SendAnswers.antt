@@ -11,7 +11,7 @@ use Rattle.cal_transport.specs.declared.reply.Reply.{Reply}
 use Rattle.cal_transport.specs.declared.reply.Reply.TheVariants.{Sent, Refused}
 use Rattle.cal_transport.specs.declared.reply.Refusal.TheVariants as refusal
 use Rattle.cal_transport.specs.Ledger.{Ledger, Chunk, ChannelHistory, Departure, ByOverflow, history_on, occurrences, is_in_transit, queued_names, loaned_chunk}
-use Rattle.cal_transport.specs.Parts.{weight, IsOrderly}
+use Rattle.cal_transport.specs.Soundness.{weight, IsOrderly}
 use Rattle.cal_transport.specs.Cause.{cause, send_cause, is_channel_outside, is_bucket_outside, is_buffer_full}
 use Rattle.cal_transport.specs.Step.{with_history, with_chunk, history_after_send, name_sent_back, front, slot_named, after_command}
 use Rattle.cal_transport.specs.Core.{Core}

@@ -15,8 +15,8 @@ use Rattle.cal_transport.specs.declared.settings.Settings.{Settings}
 use Rattle.cal_transport.specs.declared.reply.Reply.{Reply}
 use Rattle.cal_transport.specs.declared.reply.Reply.TheVariants.{Refused}
 use Rattle.cal_transport.specs.declared.reply.Refusal.TheVariants as refusal
-use Rattle.cal_transport.specs.declared.ported.chunk_entry.ChunkEntry.{ChunkEntry}
-use Rattle.cal_transport.specs.declared.ported.chunk_entry.Found.{Found}
+use Rattle.cal_transport.specs.declared.transport.chunk_entry.ChunkEntry.{ChunkEntry}
+use Rattle.cal_transport.specs.declared.transport.chunk_entry.Found.{Found}
 use Rattle.cal_transport.specs.Ledger.{Ledger, loaned_chunk, layout_at, is_live, is_in_transit}
 use Rattle.cal_transport.specs.Cause.{is_channel_outside, is_bucket_outside}
 use Rattle.cal_transport.specs.ChunkEntry.{HasNoEntry, IsFound}

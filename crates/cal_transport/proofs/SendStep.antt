@@ -8,7 +8,7 @@ use Rattle.cal_queue.specs.UsedChunks.{contains}
 use Rattle.cal_connection.specs.declared.segment_details.SegmentDetails.{SegmentDetails}
 use Rattle.cal_connection.specs.Channel as channel
 use Rattle.cal_transport.specs.Ledger.{Ledger, Chunk, ChannelHistory, layout_at, is_live, is_in_transit, borrow_count, queued_names}
-use Rattle.cal_transport.specs.Parts.{weight, IsOrderly}
+use Rattle.cal_transport.specs.Soundness.{weight, IsOrderly}
 use Rattle.cal_transport.specs.Step.{history_after_send}
 use Rattle.cal_transport.specs.Weights.{transits, borrows, one_if}
 use Rattle.cal_transport.specs.Core.{Core}

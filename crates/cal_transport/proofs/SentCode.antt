@@ -12,8 +12,8 @@ use Rattle.cal_transport.specs.declared.command.Command.TheVariants as command
 use Rattle.cal_transport.specs.declared.settings.Settings.{Settings}
 use Rattle.cal_transport.specs.declared.reply.Reply.TheVariants.{Sent, Refused}
 use Rattle.cal_transport.specs.declared.reply.Refusal.TheVariants as refusal
-use Rattle.cal_transport.specs.declared.ported.chunk_entry.ChunkEntry.{ChunkEntry}
-use Rattle.cal_transport.specs.declared.ported.sender.Sample.{Sample}
+use Rattle.cal_transport.specs.declared.transport.chunk_entry.ChunkEntry.{ChunkEntry}
+use Rattle.cal_transport.specs.declared.transport.sender.Sample.{Sample}
 use Rattle.cal_transport.specs.Ledger.{Ledger, layout_at, queued_names}
 use Rattle.cal_transport.specs.Cause.{cause, is_buffer_full}
 use Rattle.cal_transport.specs.Sample.{IsSample}

@@ -2,8 +2,7 @@
 use Rattle.std.proofs.Common.{ℕ, ◌<◌, ◌≡◌, ◌≢◌, true, length, Some}
 use Rattle.std.specs.List.{slice_get}
 use Rattle.cal_transport.specs.Ledger.{Ledger, Chunk, ChannelHistory, is_live}
-use Rattle.cal_transport.specs.Parts.{weight, IsOrderly}
-use Rattle.cal_transport.specs.Soundness.{HasRoom, HasSoundSegments, LiesWithin, ShareBucket, IsSentChunk, IsSoundLedger}
+use Rattle.cal_transport.specs.Soundness.{HasRoom, HasSoundSegments, LiesWithin, ShareBucket, IsSentChunk, IsSoundLedger, weight, IsOrderly}
 use Rattle.cal_transport.proofs.Chunks.{names_differ}
 
 -- names and buckets are apart, and what is on its way is a chunk that the connection can name

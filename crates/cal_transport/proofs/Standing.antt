@@ -34,14 +34,14 @@ IsNoLoan asked = Unit {0}
 
 pub placeless : (l : Ledger) (asked : Command) (reply : Reply) → IsNoLoan asked → IsPlaceless l asked reply
 placeless l (command.Loan size alignment) reply no = absurd no
-placeless l (command.Write name at bytes) reply no = λ o a b. elim o [ | None ↦ refl | Some why ↦ refl ]
-placeless l (command.Send channel name) reply no = λ o a b. elim o [ | None ↦ refl | Some why ↦ refl ]
-placeless l (command.Receive channel) reply no = λ o a b. elim o [ | None ↦ refl | Some why ↦ refl ]
-placeless l (command.Read channel name at length) reply no = λ o a b. elim o [ | None ↦ refl | Some why ↦ refl ]
-placeless l (command.Release channel name) reply no = λ o a b. elim o [ | None ↦ refl | Some why ↦ refl ]
-placeless l (command.Reclaim channel) reply no = λ o a b. elim o [ | None ↦ refl | Some why ↦ refl ]
-placeless l (command.Discard name) reply no = λ o a b. elim o [ | None ↦ refl | Some why ↦ refl ]
-placeless l command.Count reply no = λ o a b. elim o [ | None ↦ refl | Some why ↦ refl ]
+placeless l (command.Write name at bytes) reply no = λ o a b. elim o [ None ↦ refl | Some why ↦ refl ]
+placeless l (command.Send channel name) reply no = λ o a b. elim o [ None ↦ refl | Some why ↦ refl ]
+placeless l (command.Receive channel) reply no = λ o a b. elim o [ None ↦ refl | Some why ↦ refl ]
+placeless l (command.Read channel name at length) reply no = λ o a b. elim o [ None ↦ refl | Some why ↦ refl ]
+placeless l (command.Release channel name) reply no = λ o a b. elim o [ None ↦ refl | Some why ↦ refl ]
+placeless l (command.Reclaim channel) reply no = λ o a b. elim o [ None ↦ refl | Some why ↦ refl ]
+placeless l (command.Discard name) reply no = λ o a b. elim o [ None ↦ refl | Some why ↦ refl ]
+placeless l command.Count reply no = λ o a b. elim o [ None ↦ refl | Some why ↦ refl ]
 
 module _ (t : TransportState) (kept : Ledger) (keeps : Represents t kept) where
   pub inside : (l : Ledger) → StandsFor t l → Represents t l

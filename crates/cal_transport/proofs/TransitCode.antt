@@ -16,10 +16,10 @@ use Rattle.cal_resizable.specs.Slots.{segment_at}
 use Rattle.cal_transport.specs.declared.reply.Reply.{Reply}
 use Rattle.cal_transport.specs.declared.reply.Reply.TheVariants.{Transit}
 use Rattle.cal_transport.specs.declared.settings.Settings.{Settings}
-use Rattle.cal_transport.specs.declared.ported.chunk_entry.ChunkEntry.{ChunkEntry}
+use Rattle.cal_transport.specs.declared.transport.chunk_entry.ChunkEntry.{ChunkEntry}
 use Rattle.cal_transport.specs.ChunkEntry.{LeadsToEntry}
 use Rattle.cal_transport.specs.Ledger.{Ledger, Chunk, ChannelHistory, layout_at, is_in_transit, numbers_below}
-use Rattle.cal_transport.specs.Parts.{weight}
+use Rattle.cal_transport.specs.Soundness.{weight}
 use Rattle.cal_transport.specs.Shown.{entry_of}
 use Rattle.cal_transport.specs.State.{TransportState, core_of, IsLinked, Represents}
 use Rattle.cal_transport.specs.Run.{transit_at}

@@ -14,8 +14,8 @@ use Rattle.cal_transport.specs.declared.command.Command.TheVariants as command
 use Rattle.cal_transport.specs.declared.reply.Reply.{Reply}
 use Rattle.cal_transport.specs.declared.reply.Reply.TheVariants.{Written, Refused}
 use Rattle.cal_transport.specs.declared.reply.Refusal.TheVariants as refusal
-use Rattle.cal_transport.specs.declared.ported.chunk_entry.ChunkEntry.{ChunkEntry}
-use Rattle.cal_transport.specs.declared.ported.chunk_entry.Found.{Found}
+use Rattle.cal_transport.specs.declared.transport.chunk_entry.ChunkEntry.{ChunkEntry}
+use Rattle.cal_transport.specs.declared.transport.chunk_entry.Found.{Found}
 use Rattle.cal_transport.specs.Ledger.{Ledger, layout_at, loaned_chunk}
 use Rattle.cal_transport.specs.Cause.{write_cause}
 use Rattle.cal_transport.specs.ChunkEntry.{HasNoEntry, IsFound}

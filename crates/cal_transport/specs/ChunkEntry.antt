@@ -2,8 +2,8 @@
 use Rattle.std.specs.Prelude.{ℕ, ◌<◌, ◌≡◌, ◌≢◌, List, [], Some, slice_get, slice_index_or, map}
 use Rattle.std.specs.Prelude.{Vec, vec_items}
 use Rattle.std.specs.declared.alloc.Global.{Global}
-use Rattle.cal_transport.specs.declared.ported.chunk_entry.ChunkEntry.{ChunkEntry}
-use Rattle.cal_transport.specs.declared.ported.chunk_entry.Found.{Found}
+use Rattle.cal_transport.specs.declared.transport.chunk_entry.ChunkEntry.{ChunkEntry}
+use Rattle.cal_transport.specs.declared.transport.chunk_entry.Found.{Found}
 
 -- later chunks have greater names
 abbrev pub AreRising : List ChunkEntry → Type 0

@@ -1,6 +1,6 @@
 -- What a transport tells of a chunk.
 use Rattle.std.specs.Prelude.{◌≡◌, ℕ, ◌*◌, Option, Some, None, if◌then◌else◌}
-use Rattle.cal_transport.specs.declared.ported.access.ChunkRecord.{ChunkRecord}
+use Rattle.cal_transport.specs.declared.transport.access.ChunkRecord.{ChunkRecord}
 use Rattle.cal_transport.specs.Ledger.{Ledger, Chunk, layout_at, chunk_named, is_live}
 use Rattle.cal_transport.specs.State.{TransportState, Represents}
 

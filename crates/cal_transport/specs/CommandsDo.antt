@@ -6,8 +6,8 @@ use Rattle.cal_transport.specs.declared.reply.Reply.TheVariants.{Loaned, Written
 use Rattle.cal_transport.specs.declared.reply.Slot.{Slot}
 use Rattle.cal_transport.specs.declared.reply.Refusal.{Refusal}
 use Rattle.cal_transport.specs.declared.reply.Count.{Count}
-use Rattle.cal_transport.specs.declared.ported.loaning.LoanError.{LoanError}
-use Rattle.cal_transport.specs.declared.ported.loaning.LoanError.TheVariants as loan_error
+use Rattle.cal_transport.specs.declared.transport.loaning.LoanError.{LoanError}
+use Rattle.cal_transport.specs.declared.transport.loaning.LoanError.TheVariants as loan_error
 use Rattle.cal_transport.specs.Ledger.{Ledger}
 use Rattle.cal_transport.specs.Served.{RunsOut}
 use Rattle.cal_transport.specs.State.{TransportState, Represents, Does, DoesAnywhere}

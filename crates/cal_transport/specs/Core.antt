@@ -5,7 +5,7 @@ use Rattle.cal_alloc.specs.Pool.{Pool, with_mark}
 use Rattle.cal_queue.specs.UsedChunks.{UsedChunks}
 use Rattle.cal_connection.specs.Channel.{ChannelEntry}
 use Rattle.cal_transport.specs.declared.settings.Settings.{Settings}
-use Rattle.cal_transport.specs.declared.ported.chunk_entry.ChunkEntry.{ChunkEntry}
+use Rattle.cal_transport.specs.declared.transport.chunk_entry.ChunkEntry.{ChunkEntry}
 
 -- an active segment: its pool, the bytes of its payload, and how many chunks of it are out
 pub record ActiveSegment : Type 0 where

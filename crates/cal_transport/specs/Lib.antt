@@ -5,12 +5,6 @@ pub mod Ledger
 pub mod LoanCause
 pub mod Cause
 pub mod Step
-pub mod Built
-pub mod ChunkRecord
-pub mod Parts
-pub mod PartsOf
-pub mod Rules
-pub mod Transit
 pub mod Run
 pub mod Soundness
 pub mod Told

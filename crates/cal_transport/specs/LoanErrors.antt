@@ -7,8 +7,8 @@ use Rattle.cal_resizable.specs.declared.errors.ResizableShmAllocationError.{Resi
 use Rattle.cal_resizable.specs.declared.errors.ResizableShmAllocationError.TheVariants as memory
 use Rattle.cal_transport.specs.declared.reply.Refusal.{Refusal}
 use Rattle.cal_transport.specs.declared.reply.Refusal.TheVariants.{ExceedsMaxSupportedAlignment, SizeTooLarge, OutOfMemory, MaxReallocationsReached, SizeOutOfRange, InternalError}
-use Rattle.cal_transport.specs.declared.ported.loaning.LoanError.{LoanError}
-use Rattle.cal_transport.specs.declared.ported.loaning.LoanError.TheVariants as answer
+use Rattle.cal_transport.specs.declared.transport.loaning.LoanError.{LoanError}
+use Rattle.cal_transport.specs.declared.transport.loaning.LoanError.TheVariants as answer
 
 -- the refusal of the same name as the pool's
 abbrev pub pool_answer : ShmAllocationError → Refusal

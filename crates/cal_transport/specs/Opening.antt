@@ -16,8 +16,8 @@ use Rattle.cal_resizable.specs.Memory.{MemoryState}
 use Rattle.cal_resizable.specs.Together.{IsAlone, AreTogether}
 use Rattle.cal_resizable.specs.View.{View, ViewPlan}
 use Rattle.cal_transport.specs.declared.settings.Settings.{Settings}
-use Rattle.cal_transport.specs.declared.ported.making.OpenError.{OpenError}
-use Rattle.cal_transport.specs.declared.ported.making.OpenError.TheVariants.{Create, NoMemory}
+use Rattle.cal_transport.specs.declared.transport.making.OpenError.{OpenError}
+use Rattle.cal_transport.specs.declared.transport.making.OpenError.TheVariants.{Create, NoMemory}
 use Rattle.cal_transport.specs.Settings.{CanMake, create_cause, first_layout, payload, has_too_large_connection}
 use Rattle.cal_transport.specs.Soundness.{HasRoom}
 use Rattle.cal_transport.specs.Core.{ActiveSegment}

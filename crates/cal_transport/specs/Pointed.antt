@@ -7,7 +7,7 @@ use Rattle.cal_storage.specs.Contents.{Contents}
 use Rattle.cal_shm.specs.Segment.{Segment}
 use Rattle.cal_resizable.specs.Chunks.{segment_value}
 use Rattle.cal_resizable.specs.Memory.{MemoryState}
-use Rattle.cal_transport.specs.declared.ported.chunk_entry.ChunkEntry.{ChunkEntry}
+use Rattle.cal_transport.specs.declared.transport.chunk_entry.ChunkEntry.{ChunkEntry}
 
 -- The pointer is into an active segment, and the owner of its bucket there is the entry at an index.
 pub record PointsTo (contents : Contents (Segment Pool)) (memory : MemoryState) (entries : List ChunkEntry)

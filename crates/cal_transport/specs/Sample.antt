@@ -6,7 +6,7 @@ use Rattle.cal_resizable.specs.Growth.{OfSegment}
 use Rattle.cal_transport.specs.declared.command.Command.TheVariants as command
 use Rattle.cal_transport.specs.declared.reply.Reply.TheVariants.{Refused}
 use Rattle.cal_transport.specs.declared.reply.Refusal.{Refusal}
-use Rattle.cal_transport.specs.declared.ported.sender.Sample.{Sample}
+use Rattle.cal_transport.specs.declared.transport.sender.Sample.{Sample}
 use Rattle.cal_transport.specs.ChunkEntry.{IsFound}
 use Rattle.cal_transport.specs.Pointed.{HasPlace}
 use Rattle.cal_transport.specs.State.{TransportState, DoesAnywhere}

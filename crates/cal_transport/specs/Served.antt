@@ -5,8 +5,8 @@ use Rattle.cal_transport.specs.declared.command.Command.{Command}
 use Rattle.cal_transport.specs.declared.reply.Reply.{Reply}
 use Rattle.cal_transport.specs.Ledger.{Ledger, first_ledger}
 use Rattle.cal_transport.specs.declared.settings.CreateCause.{CreateCause}
-use Rattle.cal_transport.specs.declared.ported.run.RunError.{RunError}
-use Rattle.cal_transport.specs.declared.ported.run.RunError.TheVariants.{Create, NoMemory}
+use Rattle.cal_transport.specs.declared.run.RunError.{RunError}
+use Rattle.cal_transport.specs.declared.run.RunError.TheVariants.{Create, NoMemory}
 use Rattle.cal_transport.specs.Settings.{create_cause}
 use Rattle.cal_transport.specs.Run.{TakesMemory, after_steps, StopsForMemory}
 use Rattle.cal_transport.specs.State.{TransportState, Represents}

@@ -6,7 +6,7 @@ use Rattle.cal_queue.specs.UsedChunks.{contains, capacity_of}
 use Rattle.cal_connection.specs.declared.settings.ConnectionSettings.{ConnectionSettings}
 use Rattle.cal_connection.specs.Channel as channel
 use Rattle.cal_transport.specs.declared.settings.Settings.{Settings}
-use Rattle.cal_transport.specs.declared.ported.chunk_entry.ChunkEntry.{ChunkEntry}
+use Rattle.cal_transport.specs.declared.transport.chunk_entry.ChunkEntry.{ChunkEntry}
 use Rattle.cal_transport.specs.Settings.{payload}
 use Rattle.cal_transport.specs.Ledger.{Ledger, Chunk, ChannelHistory, layout_at, current, chunk_named, is_live, is_free, is_unused, is_mapped, is_in_transit, is_borrowed, borrow_count, queued_names, completed_names}
 use Rattle.cal_transport.specs.Weights.{transits, holds, live_in, borrowed_in, transits_on, transits_in}

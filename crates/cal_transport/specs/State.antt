@@ -12,7 +12,7 @@ use Rattle.cal_resizable.specs.Together.{AreTogether}
 use Rattle.cal_resizable.specs.View.{View}
 use Rattle.cal_connection.specs.Port as port
 use Rattle.cal_transport.specs.declared.settings.Settings.{Settings}
-use Rattle.cal_transport.specs.declared.ported.chunk_entry.ChunkEntry.{ChunkEntry}
+use Rattle.cal_transport.specs.declared.transport.chunk_entry.ChunkEntry.{ChunkEntry}
 use Rattle.cal_transport.specs.declared.command.Command.{Command}
 use Rattle.cal_transport.specs.declared.reply.Reply.{Reply}
 use Rattle.cal_transport.specs.Ledger.{Ledger}

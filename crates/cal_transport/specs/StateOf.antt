@@ -1,6 +1,6 @@
 -- How a transport's fields are seen.
 use Rattle.std.specs.Prelude.{◌-◌, map, vec_items, vec_len, vec_capacity}
-use Rattle.cal_transport.specs.declared.ported.transport.Transport.TheInside.{Inside}
+use Rattle.cal_transport.specs.declared.transport.Transport.TheInside.{Inside}
 use Rattle.cal_transport.specs.Ledger.{Ledger}
 use Rattle.cal_transport.specs.State.{TransportState, Represents, IsLinked}
 

@@ -1,4 +1,4 @@
-use Rattle.cal_transport.proofs.Running.{IsRunning}
+use Rattle.cal_transport.proofs.RunningState.{IsRunning}
 use Rattle.cal_transport.proofs.run.run_transport.Given as goal
 
 -- the replies so far are steps, and the transport stands for the ledger after them

@@ -1,4 +1,4 @@
-use Rattle.cal_transport.proofs.Running.{read_ran_out}
+use Rattle.cal_transport.proofs.RunningState.{read_ran_out}
 use Rattle.cal_transport.proofs.transport.Transport.show.Goals as goal
 
 pub returns-in-Err-new-clause-error : goal.returns-in-Err-new-clause-error

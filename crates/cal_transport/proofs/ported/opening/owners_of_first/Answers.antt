@@ -1,2 +1,0 @@
-use Rattle.cal_transport.proofs.RunningState.{ran_out, ended}
-use Rattle.cal_transport.proofs.ported.opening.owners_of_first.Goals as goal

@@ -1,6 +1,0 @@
-use Rattle.cal_transport.proofs.RunningState.{IsRunning}
-use Rattle.cal_transport.proofs.ported.run.run_transport.Given as goal
-
--- the replies so far are steps, and the transport stands for the ledger after them
-abbrev pub invariant-loop-index : goal.invariant-loop-index
-invariant-loop-index l = IsRunning l.settings l.commands l.transport l.replies l.index l.room

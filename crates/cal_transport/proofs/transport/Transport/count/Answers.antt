@@ -1,0 +1,15 @@
+use Rattle.std.proofs.Common.{subst}
+use Rattle.cal_transport.specs.CommandsDo.{CountDoes}
+use Rattle.cal_transport.specs.StateOf.{state_of}
+use Rattle.cal_transport.proofs.CountStep.{count_does}
+use Rattle.cal_transport.proofs.transport.Transport.count.Goals as goal
+
+pub count_segments-requires : goal.count_segments-requires
+count_segments-requires c = record { has = c.self.invariant.linked.together.has_memory }
+
+pub returns : goal.returns
+returns c = record {
+  step = subst (λ t. CountDoes t c.count_segments.result) c.self.view_is
+      (count_does (state_of c.self.inside) c.self.invariant.linked c.count_segments.result
+      c.count_segments.ensures.counted);
+}
