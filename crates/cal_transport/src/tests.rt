@@ -2,9 +2,10 @@
 
 use crate::{
     Bytes, ChunkRecord, Command, CreateCause, LoanError, OpenError, Refusal, Replies, Reply,
-    RunError, Settings, Slot, run_transport,
+    RunError, Settings, Slot, Transport, run_transport,
 };
 use cal_alloc::AllocationStrategy;
+use cal_names::NamedConcept;
 use std::alloc::{AllocError, Global};
 use std::process::Abort;
 use std::test::Fail;
@@ -221,6 +222,18 @@ fn a_run_that_answers_nothing_leaves_none(rt: HostRuntime) -> Result<(), Fail> {
     let no_memory = run_transport(rt.alloc(), &GROWING, &[large_loan()], &mut end);
     assert!(rt; matches!(&no_memory, Err(RunError::NoMemory(replies)) if replies.len() == 0));
     assert!(rt; end.is_none());
+    Ok(())
+}
+
+#[test]
+fn the_parts_of_a_new_transport(rt: HostRuntime) -> Result<(), Fail> {
+    let transport = Transport::open(rt.alloc(), &SMALL, 0)?;
+    assert_eq!(rt; transport.memory().number_of_active_segments(), 1);
+    assert_eq!(rt; transport.view().number_of_active_segments(), 0);
+    // what manages the memory, and its first segment
+    assert_eq!(rt; transport.memory_registry().len(), 2);
+    assert_eq!(rt; transport.connection_registry().len(), 1);
+    assert!(rt; transport.sender().name() == transport.receiver().name());
     Ok(())
 }
 
