@@ -9,7 +9,8 @@ use Rattle.cal_transport.specs.declared.transport.chunk_entry.ChunkEntry.{ChunkE
 use Rattle.cal_transport.specs.declared.transport.chunk_entry.Found.{Found}
 use Rattle.cal_transport.specs.Ledger.{Ledger, is_live}
 use Rattle.cal_transport.specs.ChunkEntry.{HasNoEntry, IsFound}
-use Rattle.cal_transport.specs.ChunkTold.{TellsChunk, record_of, record_where_live}
+use Rattle.cal_transport.specs.ChunkTold.{record_of, record_where_live}
+use Rattle.cal_transport.proofs.InsideDoes.{TellsChunk}
 use Rattle.cal_transport.specs.State.{TransportState, core_of, Represents}
 use Rattle.cal_transport.proofs.Changed.{live_is}
 use Rattle.cal_transport.proofs.Finding.{IsChunk, found_chunk, found_none}

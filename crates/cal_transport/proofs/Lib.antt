@@ -76,6 +76,7 @@ pub mod TransitCode
 pub mod TransitChannels
 pub mod Determined
 pub mod Reaching
+pub mod InsideDoes
 pub mod Standing
 pub mod FreeCode
 pub mod DiscardCode

@@ -24,7 +24,7 @@ use Rattle.cal_transport.specs.declared.transport.loaning.LoanError.TheVariants 
 use Rattle.cal_transport.specs.Ledger.{Ledger, current}
 use Rattle.cal_transport.specs.Cause.{current_segment}
 use Rattle.cal_transport.specs.ChunkEntry.{AreBelow}
-use Rattle.cal_transport.specs.CommandsDo.{LoanDoes, LoanRunsOut}
+use Rattle.cal_transport.proofs.InsideDoes.{LoanDoes, LoanRunsOut}
 use Rattle.cal_transport.specs.LoanCause.{is_static, static_cause, growth_cause, serves, next_segment, loan_cause, needs_segment}
 use Rattle.cal_transport.specs.LoanErrors.{CanCome, loan_answer, pool_answer}
 use Rattle.cal_transport.specs.Shown.{entry_of}

@@ -18,11 +18,12 @@ use Rattle.cal_transport.specs.Room.{TakesRoomOfOne}
 use Rattle.cal_transport.specs.Run.{AreSteps, after_steps, AreStepsAndTransit, StopsAt, transit_list, IsRun, TakesMemory, StopsForMemory}
 use Rattle.cal_transport.specs.Served.{RunsOut, StandsAfter, IsLeft}
 use Rattle.cal_transport.specs.Shown.{entry_of}
-use Rattle.cal_transport.specs.State.{TransportState, Represents, Does, DoesAnywhere}
+use Rattle.cal_transport.specs.Standing.{StandsFor, Does, DoesAnywhere}
+use Rattle.cal_transport.specs.State.{TransportState}
 use Rattle.cal_transport.proofs.Running.{shown_short, NamesBelow, steps_below, first_below, steps_more, after_steps-more, steps_transit, stops_at}
 
 -- the entries' names are those of the chunks
-entries_below : (t : TransportState) (l : Ledger) (n : ℕ) → Represents t l → NamesBelow l n → AreBelow t.entries n
+entries_below : (t : TransportState) (l : Ledger) (n : ℕ) → StandsFor t l → NamesBelow l n → AreBelow t.entries n
 unfolding NamesBelow
 entries_below t l n stands below i entry e =
     go l.chunks i entry (sym (ap (λ es. slice_get es i) stands.shows.entries) ∙ e) below
@@ -47,7 +48,7 @@ pub record IsRunning (settings : Settings) (commands : List Command) (t : Transp
 
 -- nothing is asked yet
 pub starts : (settings : Settings) (commands : List Command) (t : TransportState) (replies : ReplyList Reply)
-    (room : ℕ) → Represents t (first_ledger settings) → replies.items ≡ [] → length commands ≤ t.spare →
+    (room : ℕ) → StandsFor t (first_ledger settings) → replies.items ≡ [] → length commands ≤ t.spare →
     t.in_transit ≡ 0 → room ≤ replies.spare → IsRunning settings commands t replies 0 room
 starts settings commands t replies room stands none entries transits spare = record {
   steps = subst (AreSteps (first_ledger settings) 1 commands) (sym none) tt;
@@ -86,7 +87,7 @@ runs_on settings commands old new before after' index room asked reply r next do
       steps = subst (AreSteps (first_ledger settings) 1 commands) (sym pushed)
           (steps_more (first_ledger settings) 1 commands before.items asked reply r.steps next' both.0);
       stands = subst (λ rs. StandsAfter settings commands rs new) (sym pushed)
-          (subst (Represents new) (sym more) both.1);
+          (subst (StandsFor new) (sym more) both.1);
       turns = omega arith;
       entries_room = omega arith;
       in_transit = omega arith;
@@ -96,7 +97,7 @@ runs_on settings commands old new before after' index room asked reply r next do
 -- a run that went through
 pub ran : (settings : Settings) (commands : List Command) (t : TransportState) (replies : ReplyList Reply)
     (all : List Reply) (index room : ℕ) → IsRunning settings commands t replies index room →
-    index ≡ length commands → ((l : Ledger) → Represents t l → all ≡ replies.items ++ transit_list l) →
+    index ≡ length commands → ((l : Ledger) → StandsFor t l → all ≡ replies.items ++ transit_list l) →
     IsRun settings commands all
 ran settings commands t replies all index room r whole listed =
     let l = after_steps (first_ledger settings) 1 commands replies.items in
@@ -117,12 +118,12 @@ after_all l place (asked ∷ commands) (reply ∷ replies) others steps all =
 -- and the transport stands for the ledger after them
 pub ended : (settings : Settings) (commands : List Command) (t : TransportState) (replies : ReplyList Reply)
     (all : List Reply) (index room : ℕ) → IsRunning settings commands t replies index room →
-    index ≡ length commands → ((l : Ledger) → Represents t l → all ≡ replies.items ++ transit_list l) →
+    index ≡ length commands → ((l : Ledger) → StandsFor t l → all ≡ replies.items ++ transit_list l) →
     StandsAfter settings commands all t
 ended settings commands t replies all index room r whole listed =
     let l = after_steps (first_ledger settings) 1 commands replies.items in
     subst (λ rs. StandsAfter settings commands rs t) (sym (listed l r.stands))
-    (subst (Represents t)
+    (subst (StandsFor t)
     (sym (after_all (first_ledger settings) 1 commands replies.items (transit_list l) r.steps (r.turns ∙ whole)))
     r.stands)
 

@@ -1,12 +1,17 @@
 -- What a transport stands for, from what its invariant keeps: the tables follow from what the parts show.
-use Rattle.std.proofs.Common.{ℕ, ◌+◌, ◌<◌, ◌≡◌, List, [], Option, Some, None, option_map, refl, sym, ap, ◌∙◌, subst}
+use Rattle.std.proofs.Common.{ℕ, ◌+◌, ◌<◌, ◌≡◌, List, [], Option, Some, None, Result, Ok, Err, option_map, refl, sym, ap, ◌∙◌, subst}
 use Rattle.std.specs.List.{slice_get}
 use Rattle.std.proofs.lemmas.Option.{slice_get-map}
 use Rattle.cal_transport.specs.declared.settings.Settings.{Settings}
 use Rattle.cal_transport.specs.declared.command.Command.{Command}
 use Rattle.cal_transport.specs.declared.command.Command.TheVariants as command
 use Rattle.cal_transport.specs.declared.reply.Reply.{Reply}
+use Rattle.cal_transport.specs.declared.reply.Reply.TheVariants.{Loaned, Refused}
+use Rattle.cal_transport.specs.declared.reply.Slot.{Slot}
 use Rattle.cal_transport.specs.declared.reply.Refusal.{Refusal}
+use Rattle.cal_transport.specs.declared.transport.Transport.TheInside.{Inside}
+use Rattle.cal_transport.specs.declared.transport.loaning.LoanError.{LoanError}
+use Rattle.cal_transport.specs.declared.transport.loaning.LoanError.TheVariants as loan_error
 use Rattle.cal_transport.specs.Settings.{create_cause}
 use Rattle.cal_transport.specs.ChunkEntry.{AreBelow}
 use Rattle.cal_transport.specs.Ledger.{Ledger, Chunk, first_ledger}
@@ -16,7 +21,10 @@ use Rattle.cal_transport.specs.Reached.{IsNewName, IsReached}
 use Rattle.cal_transport.specs.Shown.{entry_of}
 use Rattle.cal_transport.specs.State as inner
 use Rattle.cal_transport.specs.State.{TransportState, Represents, core_of}
+use Rattle.cal_transport.specs.StateOf.{state_of, IsKept}
 use Rattle.cal_transport.specs.Standing.{StandsFor, Does, DoesAnywhere}
+use Rattle.cal_transport.specs.CommandsDo.{LoanDoes}
+use Rattle.cal_transport.proofs.InsideDoes as loan
 use Rattle.cal_transport.proofs.Determined.{tracks_any}
 use Rattle.cal_transport.proofs.Reaching.{sound_reached, reached_first, reached_step}
 use Rattle.cal_transport.proofs.Represented.{IsPlaceless}
@@ -44,8 +52,8 @@ placeless l (command.Discard name) reply no = λ o a b. elim o [ None ↦ refl |
 placeless l command.Count reply no = λ o a b. elim o [ None ↦ refl | Some why ↦ refl ]
 
 module _ (t : TransportState) (kept : Ledger) (keeps : Represents t kept) where
-  pub inside : (l : Ledger) → StandsFor t l → Represents t l
-  inside l s =
+  pub represents_any : (l : Ledger) → StandsFor t l → Represents t l
+  represents_any l s =
       let at = sound_reached l s.reached in
       record {
         place = at.place;
@@ -66,7 +74,7 @@ module _ (t : TransportState) (kept : Ledger) (keeps : Represents t kept) where
   pub does_at : (new : TransportState) (place : ℕ) (asked : Command) (reply : Reply) → AreBelow t.entries place →
       inner.Does t place asked reply new → Does t place asked reply new
   does_at new place asked reply below does l s =
-      let both = does l (inside l s) in (
+      let both = does l (represents_any l s) in (
         both.0,
         record {
           reached = reached_step l place asked reply s.reached (new_name l place s below) both.0;
@@ -78,7 +86,7 @@ module _ (t : TransportState) (kept : Ledger) (keeps : Represents t kept) where
   pub does_anywhere : (new : TransportState) (asked : Command) (reply : Reply) → IsNoLoan asked →
       inner.DoesAnywhere t asked reply new → DoesAnywhere t asked reply new
   does_anywhere new asked reply no does place l s =
-      let r = inside l s in
+      let r = represents_any l s in
       let there = does r.place l r in
       let both = does place l r in (
         both.0,
@@ -88,3 +96,39 @@ module _ (t : TransportState) (kept : Ledger) (keeps : Represents t kept) where
           shows = both.1.shows;
         },
       )
+
+-- ---- from what a transport's fields say
+
+module _ (inside : Inside) (kept : IsKept inside) (now : TransportState) (seen : state_of inside ≡ now) where
+  kept_now : Represents now kept.ledger
+  kept_now = subst (λ t. Represents t kept.ledger) seen kept.represents
+
+  pub inside_now : (l : Ledger) → StandsFor now l → Represents now l
+  inside_now l s = represents_any now kept.ledger kept_now l s
+
+  -- a command that changed something
+  pub outside : (new : TransportState) (asked : Command) (reply : Reply) → IsNoLoan asked →
+      inner.DoesAnywhere (state_of inside) asked reply new → DoesAnywhere now asked reply new
+  outside new asked reply no does =
+      does_anywhere now kept.ledger kept_now new asked reply no
+      (subst (λ t. inner.DoesAnywhere t asked reply new) seen does)
+
+  -- a command that changed nothing
+  pub unchanged : (asked : Command) (reply : Reply) → IsNoLoan asked →
+      inner.DoesAnywhere (state_of inside) asked reply (state_of inside) → DoesAnywhere now asked reply now
+  unchanged asked reply no does =
+      does_anywhere now kept.ledger kept_now now asked reply no
+      (subst (λ t. inner.DoesAnywhere t asked reply t) seen does)
+
+  -- a loan, at a name above all names
+  pub outside_loan : (name size alignment : ℕ) (answer : Result Slot LoanError) (new : TransportState) →
+      AreBelow now.entries name → loan.LoanDoes now name size alignment answer new →
+      LoanDoes now name size alignment answer new
+  outside_loan name size alignment (Ok slot) new below does =
+      does_at now kept.ledger kept_now new name (command.Loan size alignment) (Loaned slot) below does
+  outside_loan name size alignment (Err (loan_error.Refused why)) new below does =
+      does_at now kept.ledger kept_now new name (command.Loan size alignment) (Refused why) below does
+  outside_loan name size alignment (Err loan_error.NoMemory) new below does = record {
+    wanted = λ l s. does.wanted l (inside_now l s);
+    same = λ l s. record { reached = s.reached; shows = (does.same l (inside_now l s)).shows };
+  }

@@ -2,7 +2,8 @@
 use Rattle.std.specs.Prelude.{◌≡◌, ℕ, ◌*◌, Option, Some, None, if◌then◌else◌}
 use Rattle.cal_transport.specs.declared.transport.access.ChunkRecord.{ChunkRecord}
 use Rattle.cal_transport.specs.Ledger.{Ledger, Chunk, layout_at, chunk_named, is_live}
-use Rattle.cal_transport.specs.State.{TransportState, Represents}
+use Rattle.cal_transport.specs.Standing.{StandsFor}
+use Rattle.cal_transport.specs.State.{TransportState}
 
 -- where a chunk lies, and what became of it
 abbrev pub record_of : Ledger → Chunk → ChunkRecord
@@ -20,4 +21,4 @@ record_where_live l (Some chunk) = if is_live l chunk then Some (record_of l chu
 
 -- in every ledger that the transport stands for this is told of the chunk of a name
 abbrev pub TellsChunk : TransportState → ℕ → Option ChunkRecord → Type 0
-TellsChunk t name told = (l : Ledger) → Represents t l → told ≡ record_where_live l (chunk_named l name)
+TellsChunk t name told = (l : Ledger) → StandsFor t l → told ≡ record_where_live l (chunk_named l name)

@@ -10,12 +10,13 @@ use Rattle.cal_transport.specs.declared.transport.loaning.LoanError.{LoanError}
 use Rattle.cal_transport.specs.declared.transport.loaning.LoanError.TheVariants as loan_error
 use Rattle.cal_transport.specs.Ledger.{Ledger}
 use Rattle.cal_transport.specs.Served.{RunsOut}
-use Rattle.cal_transport.specs.State.{TransportState, Represents, Does, DoesAnywhere}
+use Rattle.cal_transport.specs.Standing.{StandsFor, Does, DoesAnywhere}
+use Rattle.cal_transport.specs.State.{TransportState}
 
 -- a loan that found no memory leaves the ledgers that the transport stands for, each of which wanted a further segment
 pub record LoanRunsOut (old : TransportState) (size alignment : ℕ) (new : TransportState) : Type 0 where
   pub wanted : RunsOut old (command.Loan size alignment)
-  pub same : (l : Ledger) → Represents old l → Represents new l
+  pub same : (l : Ledger) → StandsFor old l → StandsFor new l
 
 abbrev pub LoanDoes : TransportState → ℕ → ℕ → ℕ → Result Slot LoanError → TransportState → Type 0
 LoanDoes old name size alignment (Ok slot) new = Does old name (command.Loan size alignment) (Loaned slot) new

@@ -9,7 +9,8 @@ use Rattle.cal_transport.specs.declared.reply.Refusal.{Refusal}
 use Rattle.cal_transport.specs.declared.transport.sender.Sample.{Sample}
 use Rattle.cal_transport.specs.ChunkEntry.{IsFound}
 use Rattle.cal_transport.specs.Pointed.{HasPlace}
-use Rattle.cal_transport.specs.State.{TransportState, DoesAnywhere}
+use Rattle.cal_transport.specs.Standing.{DoesAnywhere}
+use Rattle.cal_transport.specs.State.{TransportState}
 
 -- The entry of that name is of a loaned chunk, which the connection can name and which isn't in use on the channel. The
 -- pointer and the size are those of its bucket.

@@ -9,15 +9,16 @@ use Rattle.cal_transport.specs.declared.run.RunError.{RunError}
 use Rattle.cal_transport.specs.declared.run.RunError.TheVariants.{Create, NoMemory}
 use Rattle.cal_transport.specs.Settings.{create_cause}
 use Rattle.cal_transport.specs.Run.{TakesMemory, after_steps, StopsForMemory}
-use Rattle.cal_transport.specs.State.{TransportState, Represents}
+use Rattle.cal_transport.specs.Standing.{StandsFor}
+use Rattle.cal_transport.specs.State.{TransportState}
 
 -- memory ran out at a command that takes some, in every ledger that the transport stands for
 abbrev pub RunsOut : TransportState → Command → Type 0
-RunsOut t asked = (l : Ledger) → Represents t l → TakesMemory l asked
+RunsOut t asked = (l : Ledger) → StandsFor t l → TakesMemory l asked
 
 -- the transport stands for the ledger to which the replies lead
 abbrev pub StandsAfter : Settings → List Command → List Reply → TransportState → Type 0
-StandsAfter settings commands replies t = Represents t (after_steps (first_ledger settings) 1 commands replies)
+StandsAfter settings commands replies t = StandsFor t (after_steps (first_ledger settings) 1 commands replies)
 
 -- the transport is left by a run with these replies, or by none where nothing was answered
 abbrev pub IsLeft : Settings → List Command → List Reply → Option TransportState → Type 0

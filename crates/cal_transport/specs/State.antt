@@ -95,15 +95,14 @@ pub record IsLinked (t : TransportState) : Type 0 where
 
 -- ---- the ledger
 
--- The transport stands for the ledger: it is one that a run reaches, and the parts show it.
+-- The parts show the ledger, which is sound, and the tables that the transport keeps lead to its chunks.
 pub record Represents (t : TransportState) (l : Ledger) : Type 0 where
   pub place : ℕ
   pub sound : IsSoundLedger l place
   pub shows : Shows (core_of t) l
   pub tracks : Tracks (core_of t) l
 
--- whichever ledger the transport stood for, the reply answers the command there, and the transport stands for the
--- ledger after it
+-- whichever ledger the parts and tables had, the reply answers the command there, and they have the ledger after it
 abbrev pub Does : TransportState → ℕ → Command → Reply → TransportState → Type 0
 Does old place asked reply new = (l : Ledger) → Represents old l →
     IsStep l place asked reply × Represents new (after_step l place asked reply)

@@ -10,7 +10,7 @@ ghost use Rattle.cal_transport.specs.Ledger.{Ledger};
 ghost use Rattle.cal_transport.specs.Run.{IsRun};
 ghost use Rattle.cal_transport.specs.Serve.{reply_to};
 ghost use Rattle.cal_transport.specs.Served.{RunsOut, StandsAfter, IsNotRun, IsLeftByError};
-ghost use Rattle.cal_transport.specs.State.{Does, DoesAnywhere, Represents};
+ghost use Rattle.cal_transport.specs.Standing.{StandsFor, Does, DoesAnywhere};
 
 use crate::bytes::Bytes;
 use crate::command::Command;
@@ -95,7 +95,7 @@ impl Transport {
         ensures served { IfOk result (λ reply. Does self.old place command.now reply self.new) }
         ensures room { OnOk result (TakesRoomOfOne self.old self.new) }
         ensures error { OnErr result (RunsOut self.old command.now) }
-        ensures same { OnErr result ((l : Ledger) → Represents self.old l → Represents self.new l) }
+        ensures same { OnErr result ((l : Ledger) → StandsFor self.old l → StandsFor self.new l) }
     {
         match command {
             Command::Loan { size, alignment } => self.answer_loan(alloc, place, *size, *alignment),
@@ -141,7 +141,7 @@ impl Transport {
         ensures served { IfOk result (λ reply. Does self.old place (Command.Loan size alignment) reply self.new) }
         ensures room { OnOk result (TakesRoomOfOne self.old self.new) }
         ensures error { OnErr result (RunsOut self.old (Command.Loan size alignment)) }
-        ensures same { OnErr result ((l : Ledger) → Represents self.old l → Represents self.new l) }
+        ensures same { OnErr result ((l : Ledger) → StandsFor self.old l → StandsFor self.new l) }
     {
         match self.loan(alloc, place, size, alignment) {
             Ok(slot) => Ok(Reply::Loaned(slot)),

@@ -4,7 +4,7 @@ ghost use Rattle.std.specs.Prelude.{◌≡◌, ◌≤◌, Some, None, Err, IfOk,
 ghost use Rattle.cal_transport.specs.Ledger.{first_ledger};
 ghost use Rattle.cal_transport.specs.Opening.{IsNotOpened};
 ghost use Rattle.cal_transport.specs.Settings.{create_cause};
-ghost use Rattle.cal_transport.specs.State.{Represents};
+ghost use Rattle.cal_transport.specs.Standing.{StandsFor};
 
 use crate::settings::{CreateCause, Settings};
 use crate::transport::Transport;
@@ -32,7 +32,7 @@ impl Transport {
             result ≡ Err (OpenError.Create cause) }
         ensures error { IfErr result (IsNotOpened settings.now) }
         ensures made { OnOk result (create_cause settings.now ≡ None) }
-        ensures first { IfOk result (λ transport. Represents transport (first_ledger settings.now)) }
+        ensures first { IfOk result (λ transport. StandsFor transport (first_ledger settings.now)) }
         ensures room { IfOk result (λ transport. loans ≤ transport.spare) }
     {
         if let Some(cause) = settings.create_cause() {
@@ -45,7 +45,7 @@ impl Transport {
     #[tactic(none)]
     fn make(alloc: Global, settings: &Settings, loans: usize) -> Result<Transport, AllocError>
         requires made { create_cause settings.now ≡ None }
-        ensures first { IfOk result (λ transport. Represents transport (first_ledger settings.now)) }
+        ensures first { IfOk result (λ transport. StandsFor transport (first_ledger settings.now)) }
         ensures room { IfOk result (λ transport. loans ≤ transport.spare) }
     {
         let settings = settings.clamped();

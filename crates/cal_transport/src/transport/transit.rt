@@ -4,6 +4,7 @@ ghost use Rattle.std.specs.Prelude.{◌≡◌, ◌≤◌, ◌<◌, ◌+◌, ◌+
 ghost use Rattle.cal_transport.specs.Ledger.{Ledger};
 ghost use Rattle.cal_transport.specs.Weights.{transits_in};
 ghost use Rattle.cal_transport.specs.Run.{transit_list};
+ghost use Rattle.cal_transport.specs.Standing.{StandsFor};
 ghost use Rattle.cal_transport.specs.State.{Represents};
 ghost use Rattle.cal_transport.specs.TransitLines.{lines_in, lines_on};
 
@@ -17,7 +18,7 @@ use cal_connection::ChannelId;
 impl Transport {
     /// How many chunks are in transit, each counted once for each channel.
     pub fn in_transit(&self) -> usize
-        ensures counted { (l : Ledger) → Represents self.now l → result ≡ transits_in l }
+        ensures counted { (l : Ledger) → StandsFor self.now l → result ≡ transits_in l }
         ensures kept { result ≡ self.now.in_transit }
     {
         self.in_transit
@@ -27,7 +28,7 @@ impl Transport {
     /// used lists of the channels on which something is in transit, and at no others.
     pub fn transit(&self, into: &mut Replies<Reply>)
         requires room { self.now.in_transit ≤ into.old.spare }
-        ensures listed { (l : Ledger) → Represents self.now l → into.new.items ≡ into.old.items ++ transit_list l }
+        ensures listed { (l : Ledger) → StandsFor self.now l → into.new.items ≡ into.old.items ++ transit_list l }
     {
         if self.in_transit == 0 {
             return;

@@ -5,8 +5,9 @@ use Rattle.cal_transport.specs.declared.reply.Reply.TheVariants.{Discarded, Refu
 use Rattle.cal_transport.specs.declared.reply.Refusal.TheVariants as refusal
 use Rattle.cal_transport.specs.ChunkEntry.{AreRising, HasNoEntry, IsFound}
 use Rattle.cal_transport.specs.Step.{after_step}
-use Rattle.cal_transport.specs.State.{core_of, DoesAnywhere}
+use Rattle.cal_transport.specs.State.{core_of}
 use Rattle.cal_transport.specs.StateOf.{state_of}
+use Rattle.cal_transport.proofs.Standing.{outside, unchanged}
 use Rattle.cal_transport.proofs.Changing.{not_true, not_false}
 use Rattle.cal_transport.proofs.Finding.{entries_rise}
 use Rattle.cal_transport.proofs.DiscardCode.{discard_unknown_does, discard_unloaned_does, place, discard_out, discard_used, discarded_linked, discarded_does}
@@ -21,14 +22,14 @@ find_entry-requires c = record {
 
 pub returns-in-None-clause-step : goal.returns-in-None-clause-step
 returns-in-None-clause-step c =
-    subst (λ t. DoesAnywhere t (command.Discard c.args.chunk) (Refused refusal.NotLoaned) t) c.self.view_is
+    unchanged c.self.inside c.self.invariant c.args.self.now c.self.view_is (command.Discard c.args.chunk) (Refused refusal.NotLoaned) tt
     (discard_unknown_does (state_of c.self.inside) c.self.invariant.linked c.args.chunk
     (subst (λ es. HasNoEntry es c.args.chunk) c.deref.ensures.value c.in-None.ensures.found))
 
 pub returns-then-not-found-clause-step : goal.returns-then-not-found-clause-step
 returns-then-not-found-clause-step c =
     let is = subst (λ es. IsFound es c.args.chunk c.in-Some.found) c.deref.ensures.value c.in-Some.ensures.found in
-    subst (λ t. DoesAnywhere t (command.Discard c.args.chunk) (Refused refusal.NotLoaned) t) c.self.view_is
+    unchanged c.self.inside c.self.invariant c.args.self.now c.self.view_is (command.Discard c.args.chunk) (Refused refusal.NotLoaned) tt
     (discard_unloaned_does (state_of c.self.inside) c.self.invariant.linked c.args.chunk c.in-Some.found is
     (not_true c.in-Some.found.entry.loaned c.if-not-found.true))
 
@@ -89,12 +90,13 @@ invariant_of-self c =
 pub returns-clause-step : goal.returns-clause-step
 returns-clause-step c =
     let is = subst (λ es. IsFound es c.args.chunk c.in-Some.found) c.deref.ensures.value c.in-Some.ensures.found in
-    subst (λ t. DoesAnywhere t (command.Discard c.args.chunk) Discarded (record (state_of c.self.inside) {
+    outside c.self.inside c.self.invariant c.args.self.now c.self.view_is (record (state_of c.self.inside) {
       memory_registry = c.free_unless.new.reg;
       memory = c.free_unless.new.memory;
       entries = c.end_loan.new.entries.items;
       spare = vec_capacity c.end_loan.new.entries - vec_len c.end_loan.new.entries;
-    })) c.self.view_is
+    })
+    (command.Discard c.args.chunk) Discarded tt
     (discarded_does (state_of c.self.inside) c.self.invariant.linked c.args.chunk c.in-Some.found is
     (not_false c.in-Some.found.entry.loaned c.if-not-found.false) c.pointer_at-pointer.result
     c.pointer_at-pointer.ensures.pointer

@@ -1,4 +1,4 @@
-use Rattle.std.proofs.Common.{◌≡◌, ◌<◌, ◌≤◌, ◌+◌, ◌-◌, ◌/◌, ◌∙◌, ◌++◌, ◌∷◌, [], length, map, Some, IsSome, Err, ◌⊎◌, vec_items, vec_len, vec_capacity, sym, ap, subst, refl, arith}
+use Rattle.std.proofs.Common.{◌≡◌, ◌<◌, ◌≤◌, ◌+◌, ◌-◌, ◌/◌, ◌∙◌, ◌++◌, ◌∷◌, [], length, map, Some, IsSome, Ok, Err, ◌⊎◌, vec_items, vec_len, vec_capacity, sym, ap, subst, refl, arith}
 use Rattle.std.proofs.lemmas.Bool.{false_from_ne_true}
 use Rattle.std.specs.Int.{is_power_of_two}
 use Rattle.cal_alloc.specs.Pool.{Pool}
@@ -11,14 +11,16 @@ use Rattle.cal_resizable.specs.Slots.{segment_at}
 use Rattle.cal_transport.specs.declared.command.Command.TheVariants as command
 use Rattle.cal_transport.specs.declared.reply.Reply.TheVariants.{Loaned}
 use Rattle.cal_transport.specs.declared.transport.chunk_entry.ChunkEntry.{ChunkEntry}
+use Rattle.cal_transport.specs.declared.reply.Refusal.TheVariants as refusal
 use Rattle.cal_transport.specs.declared.transport.loaning.LoanError.TheVariants as answer
 use Rattle.cal_transport.specs.ChunkEntry.{AreBelow}
-use Rattle.cal_transport.specs.CommandsDo.{LoanDoes}
 use Rattle.cal_transport.specs.Owning.{table_at, tables_in, with_table, with_owner}
 use Rattle.cal_transport.specs.Room.{TakesRoomOfOne}
 use Rattle.cal_transport.specs.State.{TransportState, IsLinked, Represents, Does}
 use Rattle.cal_transport.specs.StateOf.{state_of}
 use Rattle.cal_transport.specs.Step.{after_step}
+use Rattle.cal_transport.proofs.InsideDoes.{LoanDoes}
+use Rattle.cal_transport.proofs.Standing.{outside_loan}
 use Rattle.cal_transport.proofs.LiveFew.{room_for_one}
 use Rattle.cal_transport.proofs.LoanCalls.{ErrorCall, refusing, is_handed, refused_same}
 use Rattle.cal_transport.proofs.LoanCode.{loan_bad_does, table_runs_out, error_comes, error_does}
@@ -29,19 +31,23 @@ use Rattle.cal_transport.proofs.transport.Transport.loan.Goals as goal
 
 pub returns-in-None-clause-step : goal.returns-in-None-clause-step
 returns-in-None-clause-step c =
-    loan_bad_does c.args.self.now c.args.chunk c.requires.below c.args.size c.args.alignment
-    (false_from_ne_true (is_power_of_two c.args.alignment) c.in-None.ensures.value)
+    outside_loan c.self.inside c.self.invariant c.args.self.now c.self.view_is c.args.chunk c.args.size c.args.alignment
+    (Err (answer.Refused refusal.BadLayout)) c.args.self.now c.requires.below
+    (loan_bad_does c.args.self.now c.args.chunk c.requires.below c.args.size c.args.alignment
+    (false_from_ne_true (is_power_of_two c.args.alignment) c.in-None.ensures.value))
 
 -- no memory for the table of the next segment's owners
 pub returns-in-Err-clause-step : goal.returns-in-Err-clause-step
 returns-in-Err-clause-step c =
     let t = state_of c.self.inside in
-    subst (λ s. LoanDoes s c.args.chunk c.args.size c.args.alignment (Err answer.NoMemory) s) c.self.view_is
+    outside_loan c.self.inside c.self.invariant c.args.self.now c.self.view_is c.args.chunk c.args.size c.args.alignment (Err answer.NoMemory)
+    c.args.self.now c.requires.below
+    (subst (λ s. LoanDoes s c.args.chunk c.args.size c.args.alignment (Err answer.NoMemory) s) c.self.view_is
     (table_runs_out t c.args.chunk
     (subst (λ (s : TransportState). AreBelow s.entries c.args.chunk) (sym c.self.view_is) c.requires.below)
     c.args.size c.args.alignment c.self.invariant.linked c.in-Some.ensures.value.0
     (λ segment there. subst (λ lay. IsSome (next_number_of_buckets t.memory.strategy t.memory.current lay
-    segment.allocator)) c.in-Some.ensures.value.1 (c.in-Err.ensures.table segment there)))
+    segment.allocator)) c.in-Some.ensures.value.1 (c.in-Err.ensures.table segment there))))
 
 pub allocate-answer-requires-clause-room : goal.allocate-answer-requires-clause-room
 allocate-answer-requires-clause-room c =
@@ -98,7 +104,12 @@ returns-in-Err-answer-clause-step c =
     let same = refused_same t c.allocate-answer.result c.in-Err-answer.error c.in-Err-answer.is
     c.allocate-answer.new.reg c.allocate-answer.new.self c.allocate-answer.ensures.unchanged
     c.allocate-answer.ensures.same in
-    subst (λ s. LoanDoes s c.args.chunk c.args.size c.args.alignment (Err c.loan_error.result)
+    outside_loan c.self.inside c.self.invariant c.args.self.now c.self.view_is c.args.chunk c.args.size c.args.alignment (Err c.loan_error.result)
+    (record (state_of c.self.inside) {
+      memory_registry = c.allocate-answer.new.reg;
+      memory = c.allocate-answer.new.self;
+    }) c.requires.below
+    (subst (λ s. LoanDoes s c.args.chunk c.args.size c.args.alignment (Err c.loan_error.result)
     (record (state_of c.self.inside) {
       memory_registry = c.allocate-answer.new.reg;
       memory = c.allocate-answer.new.self;
@@ -107,7 +118,7 @@ returns-in-Err-answer-clause-step c =
     (subst (λ a. LoanDoes t c.args.chunk c.args.size c.args.alignment (Err a) t) (sym c.loan_error.ensures.answer)
     (error_does t c.args.chunk below c.args.size c.args.alignment c.self.invariant.linked c.in-Some.ensures.value.0
     c.in-Err-answer.error (refusing t asked c.allocate-answer.result c.in-Err-answer.error call)
-    c.self.invariant.ledger c.self.invariant.represents)))
+    c.self.invariant.ledger c.self.invariant.represents))))
 
 pub returns-in-Err-answer-clause-room : goal.returns-in-Err-answer-clause-room
 returns-in-Err-answer-clause-room c =
@@ -437,7 +448,7 @@ returns-clause-step c =
     let does = loaned_does t linked c.args.chunk c.args.size c.args.alignment h.below pointer reg memory c.in-Ok.table
     h.between size size_is c.put_zeros.new.reg c.put_zeros.ensures.put spare tables entries entries_are owners owners_are
     h.none c.slot_at.result (c.slot_at.ensures.slot ∙ ap (λ (e : ChunkEntry). slot_of_entry e pointer) entry) in
-    subst (λ s. Does s c.args.chunk (command.Loan c.args.size c.args.alignment) (Loaned c.slot_at.result)
+    outside_loan c.self.inside c.self.invariant c.args.self.now c.self.view_is c.args.chunk c.args.size c.args.alignment (Ok c.slot_at.result)
     (record (state_of c.self.inside) {
       memory_registry = c.put_zeros.new.reg;
       memory = c.allocate-answer.new.self;
@@ -445,7 +456,16 @@ returns-clause-step c =
       owners = map vec_items c.set_owner.new.owners.items;
       spare = vec_capacity c.push_reserved.new.self - vec_len c.push_reserved.new.self;
       spare_tables = vec_capacity c.set_owner.new.owners - vec_len c.set_owner.new.owners;
-    })) c.self.view_is does
+    }) c.requires.below
+    (subst (λ s. Does s c.args.chunk (command.Loan c.args.size c.args.alignment) (Loaned c.slot_at.result)
+    (record (state_of c.self.inside) {
+      memory_registry = c.put_zeros.new.reg;
+      memory = c.allocate-answer.new.self;
+      entries = c.push_reserved.new.self.items;
+      owners = map vec_items c.set_owner.new.owners.items;
+      spare = vec_capacity c.push_reserved.new.self - vec_len c.push_reserved.new.self;
+      spare_tables = vec_capacity c.set_owner.new.owners - vec_len c.set_owner.new.owners;
+    })) c.self.view_is does)
 
 pub returns-clause-room : goal.returns-clause-room
 returns-clause-room c =

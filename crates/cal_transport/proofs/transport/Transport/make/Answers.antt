@@ -2,6 +2,7 @@ use Rattle.std.proofs.Common.{◌-◌, map, vec_items, vec_len, vec_capacity, re
 use Rattle.cal_transport.specs.Ledger.{first_ledger}
 use Rattle.cal_transport.specs.Opening.{CanOpen}
 use Rattle.cal_transport.specs.State.{TransportState}
+use Rattle.cal_transport.proofs.Standing.{stands_first}
 use Rattle.cal_transport.proofs.Openable.{can_open}
 use Rattle.cal_transport.proofs.NewTransport.{IsNewState, linked, represents_first}
 use Rattle.cal_transport.proofs.transport.Transport.make.Goals as goal
@@ -92,4 +93,5 @@ returns-clause-first c =
       entries = c.in_ok-entries.ensures.items;
       in_transit = refl;
     } in
-    represents_first t new c.args.settings.now c.clamped-settings.ensures.value c.requires.made
+    stands_first t c.args.settings.now c.requires.made
+    (represents_first t new c.args.settings.now c.clamped-settings.ensures.value c.requires.made)

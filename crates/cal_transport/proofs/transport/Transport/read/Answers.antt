@@ -5,8 +5,9 @@ use Rattle.cal_transport.specs.declared.command.Command.TheVariants as command
 use Rattle.cal_transport.specs.declared.reply.Reply.TheVariants.{Shown, Refused}
 use Rattle.cal_transport.specs.declared.reply.Refusal.TheVariants as refusal
 use Rattle.cal_transport.specs.ChunkEntry.{AreRising, HasNoEntry, IsFound}
-use Rattle.cal_transport.specs.State.{core_of, DoesAnywhere}
+use Rattle.cal_transport.specs.State.{core_of}
 use Rattle.cal_transport.specs.StateOf.{state_of}
+use Rattle.cal_transport.proofs.Standing.{unchanged}
 use Rattle.cal_transport.proofs.Finding.{entries_rise}
 use Rattle.cal_transport.proofs.ReadCode.{read_outside_does, read_unknown_does, read_unlent_does, read_held, read_place, read_mapped, read_payload, read_long, read_does, read_past_does}
 use Rattle.cal_transport.proofs.ReleaseCode.{marks_many, transit_mark}
@@ -14,8 +15,7 @@ use Rattle.cal_transport.proofs.transport.Transport.read.Goals as goal
 
 pub returns-then-channel-self : goal.returns-then-channel-self
 returns-then-channel-self c = record {
-  step = subst (λ t. DoesAnywhere t (command.Read c.args.channel c.args.chunk c.args.at c.args.length)
-      (Refused refusal.OutsideConnection) t) c.self.view_is
+  step = unchanged c.self.inside c.self.invariant c.args.self.now c.self.view_is (command.Read c.args.channel c.args.chunk c.args.at c.args.length) (Refused refusal.OutsideConnection) tt
       (read_outside_does (state_of c.self.inside) c.self.invariant.linked c.args.channel c.args.chunk c.args.at
       c.args.length c.if-channel-self.true);
 }
@@ -29,8 +29,7 @@ find_entry-requires c = record {
 
 pub returns-in-None : goal.returns-in-None
 returns-in-None c = record {
-  step = subst (λ t. DoesAnywhere t (command.Read c.args.channel c.args.chunk c.args.at c.args.length)
-      (Refused refusal.NotBorrowed) t) c.self.view_is
+  step = unchanged c.self.inside c.self.invariant c.args.self.now c.self.view_is (command.Read c.args.channel c.args.chunk c.args.at c.args.length) (Refused refusal.NotBorrowed) tt
       (read_unknown_does (state_of c.self.inside) c.self.invariant.linked c.args.channel c.args.chunk c.args.at
       c.args.length c.if-channel-self.false
       (subst (λ es. HasNoEntry es c.args.chunk) c.deref.ensures.value c.in-None.ensures.found));
@@ -70,8 +69,7 @@ returns-then-not-is_lent c =
     && contains (get_or us c.args.channel (none_used 0)) (c.in-Some.found.entry.segment * c.self.inside.settings.samples
     + c.in-Some.found.entry.bucket))) c.deref-2.ensures.value c.is_lent.ensures.lent in
     record {
-      step = subst (λ t. DoesAnywhere t (command.Read c.args.channel c.args.chunk c.args.at c.args.length)
-          (Refused refusal.NotBorrowed) t) c.self.view_is
+      step = unchanged c.self.inside c.self.invariant c.args.self.now c.self.view_is (command.Read c.args.channel c.args.chunk c.args.at c.args.length) (Refused refusal.NotBorrowed) tt
           (read_unlent_does (state_of c.self.inside) c.self.invariant.linked c.args.channel c.args.chunk c.args.at
           c.args.length c.if-channel-self.false c.in-Some.found is (sym told ∙ c.if-not-is_lent.true));
     }
@@ -98,8 +96,7 @@ returns-then-exceeds_bucket c =
     + c.in-Some.found.entry.bucket))) c.deref-2.ensures.value c.is_lent.ensures.lent in
     let lent = sym told ∙ c.if-not-is_lent.false in
     record {
-      step = subst (λ t. DoesAnywhere t (command.Read c.args.channel c.args.chunk c.args.at c.args.length)
-          (Refused refusal.OutsideChunk) t) c.self.view_is
+      step = unchanged c.self.inside c.self.invariant c.args.self.now c.self.view_is (command.Read c.args.channel c.args.chunk c.args.at c.args.length) (Refused refusal.OutsideChunk) tt
           (read_past_does (state_of c.self.inside) c.self.invariant.linked c.args.channel c.args.chunk
           c.args.at c.args.length c.if-channel-self.false c.in-Some.found is lent
           c.size_at-size.result c.size_at-size.ensures.size
@@ -179,9 +176,7 @@ returns c =
     + c.in-Some.found.entry.bucket))) c.deref-2.ensures.value c.is_lent.ensures.lent in
     let lent = sym told ∙ c.if-not-is_lent.false in
     record {
-      step = subst (λ t. DoesAnywhere t (command.Read c.args.channel c.args.chunk c.args.at c.args.length)
-          (Shown (take (c.args.at + c.args.length - c.args.at) (drop c.args.at c.viewed_bytes-bytes.result.now))) t)
-          c.self.view_is
+      step = unchanged c.self.inside c.self.invariant c.args.self.now c.self.view_is (command.Read c.args.channel c.args.chunk c.args.at c.args.length) (Shown (take (c.args.at + c.args.length - c.args.at) (drop c.args.at c.viewed_bytes-bytes.result.now))) tt
           (read_does (state_of c.self.inside) c.self.invariant.linked c.args.channel c.args.chunk
           c.args.at c.args.length c.if-channel-self.false c.in-Some.found is lent
           c.pointer_at-pointer.result c.pointer_at-pointer.ensures.pointer c.size_at-size.result

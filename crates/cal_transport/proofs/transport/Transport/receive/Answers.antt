@@ -14,6 +14,7 @@ use Rattle.cal_transport.specs.State.{TransportState, Represents, IsLinked, Does
 use Rattle.cal_transport.specs.StateOf.{state_of}
 use Rattle.cal_queue.specs.UsedChunks.{capacity_of, none_used, after_insertion}
 use Rattle.cal_transport.specs.Step.{after_step}
+use Rattle.cal_transport.proofs.Standing.{outside, unchanged}
 use Rattle.cal_transport.proofs.ReceiveCode.{ReceiveCall, receive_outside_does, receive_limit_state, receive_limit_does, receive_none_state, receive_none_does}
 use Rattle.cal_transport.proofs.ReceivedCode.{front_leads, front_active, front_room, front_capacity, found_entry, entry_mark, received_linked, received_does}
 use Rattle.cal_transport.proofs.RoomTaken.{makes_none}
@@ -28,7 +29,7 @@ call_at t n k same a b is registry receiver call =
 
 pub returns-then-channel-self-clause-step : goal.returns-then-channel-self-clause-step
 returns-then-channel-self-clause-step c =
-    subst (λ t. DoesAnywhere t (command.Receive c.args.channel) (Refused refusal.OutsideConnection) t) c.self.view_is
+    unchanged c.self.inside c.self.invariant c.args.self.now c.self.view_is (command.Receive c.args.channel) (Refused refusal.OutsideConnection) tt
     (receive_outside_does (state_of c.self.inside) c.args.channel c.if-channel-self.true)
 
 pub returns-then-channel-self-clause-room : goal.returns-then-channel-self-clause-room
@@ -66,12 +67,12 @@ returns-in-Err-clause-step c =
     let same = receive_limit_state (state_of c.self.inside) c.self.invariant.linked c.args.channel
     c.if-channel-self.false
     c.receive-answer.new.reg c.receive-answer.new.self c.in-Err.field-0 call in
-    subst (λ t. DoesAnywhere t (command.Receive c.args.channel) (Refused
-    refusal.ReceiveWouldExceedMaxBorrowValue)
-    (record (state_of c.self.inside) {
+    outside c.self.inside c.self.invariant c.args.self.now c.self.view_is (record (state_of c.self.inside) {
       connection_registry = c.receive-answer.new.reg;
       receiver = c.receive-answer.new.self;
-    })) c.self.view_is
+    })
+    (command.Receive c.args.channel) (Refused
+    refusal.ReceiveWouldExceedMaxBorrowValue) tt
     (subst (λ t. DoesAnywhere (state_of c.self.inside) (command.Receive c.args.channel) (Refused
     refusal.ReceiveWouldExceedMaxBorrowValue) t)
     (sym same)
@@ -119,11 +120,11 @@ returns-in-None-clause-step c =
     let same = receive_none_state (state_of c.self.inside) c.self.invariant.linked c.args.channel
     c.if-channel-self.false
     c.receive-answer.new.reg c.receive-answer.new.self call in
-    subst (λ t. DoesAnywhere t (command.Receive c.args.channel) (Received None)
-    (record (state_of c.self.inside) {
+    outside c.self.inside c.self.invariant c.args.self.now c.self.view_is (record (state_of c.self.inside) {
       connection_registry = c.receive-answer.new.reg;
       receiver = c.receive-answer.new.self;
-    })) c.self.view_is
+    })
+    (command.Receive c.args.channel) (Received None) tt
     (subst (λ t. DoesAnywhere (state_of c.self.inside) (command.Receive c.args.channel) (Received None) t)
     (sym same)
     (receive_none_does (state_of c.self.inside) c.self.invariant.linked c.args.channel c.if-channel-self.false
@@ -318,17 +319,18 @@ returns-clause-step c =
     c.receive-answer.new.reg c.receive-answer.new.self call
     c.arrive.new.reg c.arrive.new.view c.arrive.ensures.arrived c.pointed_entry-found.result.entry c.lend.new.lent.items
     lent entries in
-    subst (λ t. DoesAnywhere t (command.Receive c.args.channel) (Received (Some (record {
-      chunk = c.pointed_entry-found.result.entry.name;
-      segment = c.value.result;
-      place = c.offset.result;
-    }))) (record (state_of c.self.inside) {
+    outside c.self.inside c.self.invariant c.args.self.now c.self.view_is (record (state_of c.self.inside) {
       memory_registry = c.arrive.new.reg;
       view = c.arrive.new.view;
       connection_registry = c.receive-answer.new.reg;
       receiver = c.receive-answer.new.self;
       lent = c.lend.new.lent.items;
-    })) c.self.view_is
+    })
+    (command.Receive c.args.channel) (Received (Some (record {
+      chunk = c.pointed_entry-found.result.entry.name;
+      segment = c.value.result;
+      place = c.offset.result;
+    }))) tt
     (subst (λ n. DoesAnywhere (state_of c.self.inside) (command.Receive c.args.channel) (Received (Some (record {
       chunk = c.pointed_entry-found.result.entry.name;
       segment = n;

@@ -18,6 +18,7 @@ use Rattle.cal_transport.specs.Sharing.{FreesUnless}
 use Rattle.cal_transport.specs.Step.{after_step}
 use Rattle.cal_transport.specs.State.{TransportState, Represents, IsLinked, DoesAnywhere}
 use Rattle.cal_transport.specs.StateOf.{state_of}
+use Rattle.cal_transport.proofs.Standing.{outside, unchanged}
 use Rattle.cal_transport.proofs.ReclaimCode.{ReclaimCall, reclaim_outside_does, reclaim_answers, reclaim_none_state, reclaim_none_does, front_leads, front_out, front_used, front_counted, front_in_all, found_index, found_transit, reclaimed_linked, reclaimed_does}
 use Rattle.cal_transport.proofs.RoomTaken.{same_spare, makes_none}
 use Rattle.cal_transport.proofs.transport.Transport.reclaim.Goals as goal
@@ -31,7 +32,7 @@ call_at t n k same a b is registry sender call =
 
 pub returns-then-channel-self-clause-step : goal.returns-then-channel-self-clause-step
 returns-then-channel-self-clause-step c =
-    subst (λ t. DoesAnywhere t (command.Reclaim c.args.channel) (Refused refusal.OutsideConnection) t) c.self.view_is
+    unchanged c.self.inside c.self.invariant c.args.self.now c.self.view_is (command.Reclaim c.args.channel) (Refused refusal.OutsideConnection) tt
     (reclaim_outside_does (state_of c.self.inside) c.args.channel c.if-channel-self.true)
 
 pub returns-then-channel-self-clause-room : goal.returns-then-channel-self-clause-room
@@ -80,10 +81,11 @@ returns-in-None-clause-step c =
     let same = reclaim_none_state (state_of c.self.inside) c.self.invariant.linked c.args.channel
     c.if-channel-self.false
     c.reclaim-answer.new.reg c.reclaim-answer.new.self call in
-    subst (λ t. DoesAnywhere t (command.Reclaim c.args.channel) (Reclaimed None) (record (state_of c.self.inside) {
+    outside c.self.inside c.self.invariant c.args.self.now c.self.view_is (record (state_of c.self.inside) {
       connection_registry = c.reclaim-answer.new.reg;
       sender = c.reclaim-answer.new.self;
-    })) c.self.view_is
+    })
+    (command.Reclaim c.args.channel) (Reclaimed None) tt
     (subst (λ t. DoesAnywhere (state_of c.self.inside) (command.Reclaim c.args.channel) (Reclaimed None) t) (sym same)
     (reclaim_none_does (state_of c.self.inside) c.self.invariant.linked c.args.channel c.if-channel-self.false
     c.reclaim-answer.new.reg c.reclaim-answer.new.self call))
@@ -283,8 +285,7 @@ returns-clause-step c =
     c.leave_channel-kept.new.entries.items c.leave_channel-kept.ensures.written
     c.count_less.new.transits.items c.count_less.ensures.counted
     (vec_capacity c.leave_channel-kept.new.entries - vec_len c.leave_channel-kept.new.entries) in
-    subst (λ t. DoesAnywhere t (command.Reclaim c.args.channel) (Reclaimed (Some c.slot_at.result))
-    (record (state_of c.self.inside) {
+    outside c.self.inside c.self.invariant c.args.self.now c.self.view_is (record (state_of c.self.inside) {
       memory_registry = c.free_unless.new.reg;
       memory = c.free_unless.new.memory;
       connection_registry = c.reclaim-answer.new.reg;
@@ -293,7 +294,8 @@ returns-clause-step c =
       transits = c.count_less.new.transits.items;
       in_transit = c.self.inside.in_transit - 1;
       spare = vec_capacity c.leave_channel-kept.new.entries - vec_len c.leave_channel-kept.new.entries;
-    })) c.self.view_is
+    })
+    (command.Reclaim c.args.channel) (Reclaimed (Some c.slot_at.result)) tt
     (subst (λ (s : Slot). DoesAnywhere (state_of c.self.inside) (command.Reclaim c.args.channel) (Reclaimed (Some s))
     (record (state_of c.self.inside) {
       memory_registry = c.free_unless.new.reg;

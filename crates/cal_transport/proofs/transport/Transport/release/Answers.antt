@@ -11,6 +11,7 @@ use Rattle.cal_transport.specs.Room.{TakesRoomOfOne}
 use Rattle.cal_transport.specs.Step.{after_step}
 use Rattle.cal_transport.specs.State.{TransportState, core_of, Represents, IsLinked, DoesAnywhere}
 use Rattle.cal_transport.specs.StateOf.{state_of}
+use Rattle.cal_transport.proofs.Standing.{outside, unchanged}
 use Rattle.cal_transport.proofs.Finding.{entries_rise}
 use Rattle.cal_transport.proofs.ReleaseCode.{ReleaseCall, release_outside_does, release_unknown_does, release_unlent_does, marks_many, transit_mark, lent_mark, place, pointer_by, counts_it, registered, release_full_state, release_full_does, released_linked, released_does}
 use Rattle.cal_transport.proofs.RoomTaken.{makes_none}
@@ -25,8 +26,7 @@ call_at t n k same pointer a b is registry receiver call =
 
 pub returns-then-channel-self-clause-step : goal.returns-then-channel-self-clause-step
 returns-then-channel-self-clause-step c =
-    subst (λ t. DoesAnywhere t (command.Release c.args.channel c.args.chunk) (Refused refusal.OutsideConnection) t)
-    c.self.view_is
+    unchanged c.self.inside c.self.invariant c.args.self.now c.self.view_is (command.Release c.args.channel c.args.chunk) (Refused refusal.OutsideConnection) tt
     (release_outside_does (state_of c.self.inside) c.args.channel c.args.chunk c.if-channel-self.true)
 
 pub returns-then-channel-self-clause-room : goal.returns-then-channel-self-clause-room
@@ -40,8 +40,7 @@ find_entry-requires c = record {
 }
 
 pub returns-in-None-clause-step : goal.returns-in-None-clause-step
-returns-in-None-clause-step c = subst (λ t. DoesAnywhere t (command.Release c.args.channel c.args.chunk) (Refused refusal.NotBorrowed) t)
-    c.self.view_is
+returns-in-None-clause-step c = unchanged c.self.inside c.self.invariant c.args.self.now c.self.view_is (command.Release c.args.channel c.args.chunk) (Refused refusal.NotBorrowed) tt
     (release_unknown_does (state_of c.self.inside) c.self.invariant.linked c.args.channel c.if-channel-self.false
     c.args.chunk
     (subst (λ es. HasNoEntry es c.args.chunk) c.deref.ensures.value c.in-None.ensures.found))
@@ -78,8 +77,7 @@ returns-then-not-is_lent-clause-step c =
     let told = subst (λ us. c.is_lent.result ≡ (nat_lt 0 c.in-Some.found.entry.transits
     && contains (get_or us c.args.channel (none_used 0)) (c.in-Some.found.entry.segment * c.self.inside.settings.samples
     + c.in-Some.found.entry.bucket))) c.deref-2.ensures.value c.is_lent.ensures.lent in
-    subst (λ t. DoesAnywhere t (command.Release c.args.channel c.args.chunk) (Refused refusal.NotBorrowed) t)
-    c.self.view_is
+    unchanged c.self.inside c.self.invariant c.args.self.now c.self.view_is (command.Release c.args.channel c.args.chunk) (Refused refusal.NotBorrowed) tt
     (release_unlent_does (state_of c.self.inside) c.self.invariant.linked c.args.channel
     c.if-channel-self.false c.args.chunk
     c.in-Some.found is
@@ -151,11 +149,11 @@ returns-in-Err-clause-step c =
     c.if-channel-self.false c.args.chunk
     c.in-Some.found is lent
     c.pointer_at-pointer.result c.release-answer.new.reg c.release-answer.new.self c.in-Err.field-0 call in
-    subst (λ t. DoesAnywhere t (command.Release c.args.channel c.args.chunk)
-    (Refused refusal.RetrieveBufferFull) (record (state_of c.self.inside) {
+    outside c.self.inside c.self.invariant c.args.self.now c.self.view_is (record (state_of c.self.inside) {
       connection_registry = c.release-answer.new.reg;
       receiver = c.release-answer.new.self;
-    })) c.self.view_is
+    })
+    (command.Release c.args.channel c.args.chunk) (Refused refusal.RetrieveBufferFull) tt
     (subst (λ t. DoesAnywhere (state_of c.self.inside) (command.Release c.args.channel c.args.chunk)
     (Refused refusal.RetrieveBufferFull) t) (sym same)
     (release_full_does (state_of c.self.inside) c.self.invariant.linked c.args.channel c.if-channel-self.false
@@ -261,14 +259,15 @@ returns-clause-step c =
     c.in-Some.found is lent
     c.pointer_at-pointer.result c.release-answer.new.reg c.release-answer.new.self call c.go_back.new.reg
     c.go_back.new.view c.go_back.ensures.gone c.unlend.new.lent.items lent_is pointer_is in
-    subst (λ t. DoesAnywhere t (command.Release c.args.channel c.args.chunk) Released
-    (record (state_of c.self.inside) {
+    outside c.self.inside c.self.invariant c.args.self.now c.self.view_is (record (state_of c.self.inside) {
       memory_registry = c.go_back.new.reg;
       view = c.go_back.new.view;
       connection_registry = c.release-answer.new.reg;
       receiver = c.release-answer.new.self;
       lent = c.unlend.new.lent.items;
-    })) c.self.view_is does
+    })
+    (command.Release c.args.channel c.args.chunk) Released tt
+    does
 
 pub returns-clause-room : goal.returns-clause-room
 returns-clause-room c =

@@ -10,8 +10,9 @@ use Rattle.cal_transport.specs.declared.reply.Reply.TheVariants.{Refused}
 use Rattle.cal_transport.specs.declared.reply.Refusal.TheVariants as refusal
 use Rattle.cal_transport.specs.ChunkEntry.{AreRising, HasNoEntry, IsFound}
 use Rattle.cal_transport.specs.Sample.{IsSample}
-use Rattle.cal_transport.specs.State.{core_of, DoesAnywhere}
+use Rattle.cal_transport.specs.State.{core_of}
 use Rattle.cal_transport.specs.StateOf.{state_of}
+use Rattle.cal_transport.proofs.Standing.{unchanged}
 use Rattle.cal_transport.proofs.Changing.{not_true, not_false}
 use Rattle.cal_transport.proofs.Finding.{entries_rise}
 use Rattle.cal_transport.proofs.Segments.{shown_held}
@@ -31,8 +32,7 @@ find_entry-requires c = record {
 
 pub returns-in-None : goal.returns-in-None
 returns-in-None c = record {
-  sample = subst (λ t. DoesAnywhere t (command.Send c.args.channel c.args.chunk) (Refused refusal.NotLoaned) t)
-      c.self.view_is
+  sample = unchanged c.self.inside c.self.invariant c.args.self.now c.self.view_is (command.Send c.args.channel c.args.chunk) (Refused refusal.NotLoaned) tt
       (send_unknown_does (state_of c.self.inside) c.args.channel c.args.chunk
       (subst (λ es. HasNoEntry es c.args.chunk) c.deref.ensures.value c.in-None.ensures.found));
 }
@@ -41,8 +41,7 @@ pub returns-then-not-found : goal.returns-then-not-found
 returns-then-not-found c =
     let is = subst (λ es. IsFound es c.args.chunk c.in-Some.found) c.deref.ensures.value c.in-Some.ensures.found in
     record {
-      sample = subst (λ t. DoesAnywhere t (command.Send c.args.channel c.args.chunk) (Refused refusal.NotLoaned) t)
-          c.self.view_is
+      sample = unchanged c.self.inside c.self.invariant c.args.self.now c.self.view_is (command.Send c.args.channel c.args.chunk) (Refused refusal.NotLoaned) tt
           (send_unloaned_does (state_of c.self.inside) c.args.channel c.args.chunk c.in-Some.found is
           (not_true c.in-Some.found.entry.loaned c.if-not-found.true));
     }
@@ -51,8 +50,7 @@ pub returns-then-channel-self : goal.returns-then-channel-self
 returns-then-channel-self c =
     let is = subst (λ es. IsFound es c.args.chunk c.in-Some.found) c.deref.ensures.value c.in-Some.ensures.found in
     record {
-      sample = subst (λ t. DoesAnywhere t (command.Send c.args.channel c.args.chunk)
-          (Refused refusal.OutsideConnection) t) c.self.view_is
+      sample = unchanged c.self.inside c.self.invariant c.args.self.now c.self.view_is (command.Send c.args.channel c.args.chunk) (Refused refusal.OutsideConnection) tt
           (send_no_channel_does (state_of c.self.inside) c.args.channel c.args.chunk c.in-Some.found is
           (not_false c.in-Some.found.entry.loaned c.if-not-found.false) c.if-channel-self.true);
     }
@@ -61,8 +59,7 @@ pub returns-then-not-is_within : goal.returns-then-not-is_within
 returns-then-not-is_within c =
     let is = subst (λ es. IsFound es c.args.chunk c.in-Some.found) c.deref.ensures.value c.in-Some.ensures.found in
     record {
-      sample = subst (λ t. DoesAnywhere t (command.Send c.args.channel c.args.chunk)
-          (Refused refusal.OutsideConnection) t) c.self.view_is
+      sample = unchanged c.self.inside c.self.invariant c.args.self.now c.self.view_is (command.Send c.args.channel c.args.chunk) (Refused refusal.OutsideConnection) tt
           (send_unnamable_does (state_of c.self.inside) c.args.channel c.args.chunk c.in-Some.found is
           (not_false c.in-Some.found.entry.loaned c.if-not-found.false) (sym c.is_within.ensures.within ∙
           c.if-not-is_within.true));
@@ -112,8 +109,7 @@ returns-then-is_in_use c =
     c.pointer_at-pointer.result c.bucket_size-size.result) (sym c.new-sent_on.ensures.value)
     ∙ sym c.is_in_use.ensures.value ∙ c.if-is_in_use.true in
     record {
-      sample = subst (λ t. DoesAnywhere t (command.Send c.args.channel c.args.chunk)
-          (Refused refusal.AlreadyInTransit) t) c.self.view_is
+      sample = unchanged c.self.inside c.self.invariant c.args.self.now c.self.view_is (command.Send c.args.channel c.args.chunk) (Refused refusal.AlreadyInTransit) tt
           (send_again_does (state_of c.self.inside) c.args.channel c.args.chunk c.in-Some.found is
           (not_false c.in-Some.found.entry.loaned c.if-not-found.false) c.self.invariant.linked
           c.if-channel-self.false both.0 both.1

@@ -21,6 +21,7 @@ use Rattle.cal_transport.specs.Sharing.{FreesUnless}
 use Rattle.cal_transport.specs.Step.{after_step}
 use Rattle.cal_transport.specs.State.{TransportState, Represents, IsLinked, DoesAnywhere}
 use Rattle.cal_transport.specs.StateOf.{state_of}
+use Rattle.cal_transport.proofs.Standing.{outside}
 use Rattle.cal_transport.proofs.RoomTaken.{same_spare, makes_none}
 use Rattle.cal_transport.proofs.SendRefusals.{send_within}
 use Rattle.cal_transport.proofs.SendCode.{all_counted, channel_counted, entry_counted}
@@ -95,11 +96,11 @@ returns-in-Err-clause-step c =
     c.in_ok-sample.sample is
     c.in-Err.field-0 c.try_send-answer.new.reg c.try_send-answer.new.self call c.self.invariant.ledger
     c.self.invariant.represents in
-    subst (λ t. DoesAnywhere t (command.Send c.args.channel c.args.chunk) (Refused refusal.ReceiveBufferFull)
-    (record (state_of c.self.inside) {
+    outside c.self.inside c.self.invariant c.args.self.now c.self.view_is (record (state_of c.self.inside) {
       connection_registry = c.try_send-answer.new.reg;
       sender = c.try_send-answer.new.self;
-    })) c.self.view_is
+    })
+    (command.Send c.args.channel c.args.chunk) (Refused refusal.ReceiveBufferFull) tt
     (subst (λ t. DoesAnywhere (state_of c.self.inside) (command.Send c.args.channel c.args.chunk)
     (Refused refusal.ReceiveBufferFull) t) (sym same)
     (send_full_does (state_of c.self.inside) c.self.invariant.linked c.args.channel c.args.chunk c.in_ok-sample.sample is
@@ -188,15 +189,15 @@ returns-in-None-clause-step c =
       registry_is = c.try_send-answer.ensures.sent;
       sender_is = c.try_send-answer.ensures.port;
     }) in
-    subst (λ t. DoesAnywhere t (command.Send c.args.channel c.args.chunk) (Sent None)
-    (record (state_of c.self.inside) {
+    outside c.self.inside c.self.invariant c.args.self.now c.self.view_is (record (state_of c.self.inside) {
       connection_registry = c.try_send-answer.new.reg;
       sender = c.try_send-answer.new.self;
       entries = c.enter_channel.new.entries.items;
       transits = c.count_more.new.transits.items;
       in_transit = c.self.inside.in_transit + 1;
       spare = vec_capacity c.enter_channel.new.entries - vec_len c.enter_channel.new.entries;
-    })) c.self.view_is
+    })
+    (command.Send c.args.channel c.args.chunk) (Sent None) tt
     (sent_does (state_of c.self.inside) c.self.invariant.linked c.args.channel c.args.chunk c.in_ok-sample.sample is
     c.try_send-answer.new.reg c.try_send-answer.new.self call c.enter_channel.new.entries.items
     c.enter_channel.ensures.written
@@ -415,15 +416,15 @@ returns-clause-step c =
     c.free_unless.new.reg c.free_unless.new.memory freed
     c.take_place-kept.new.entries.items c.take_place-kept.ensures.written
     (vec_capacity c.take_place-kept.new.entries - vec_len c.take_place-kept.new.entries) in
-    subst (λ t. DoesAnywhere t (command.Send c.args.channel c.args.chunk) (Sent (Some c.slot_at.result))
-    (record (state_of c.self.inside) {
+    outside c.self.inside c.self.invariant c.args.self.now c.self.view_is (record (state_of c.self.inside) {
       memory_registry = c.free_unless.new.reg;
       memory = c.free_unless.new.memory;
       connection_registry = c.try_send-answer.new.reg;
       sender = c.try_send-answer.new.self;
       entries = c.take_place-kept.new.entries.items;
       spare = vec_capacity c.take_place-kept.new.entries - vec_len c.take_place-kept.new.entries;
-    })) c.self.view_is
+    })
+    (command.Send c.args.channel c.args.chunk) (Sent (Some c.slot_at.result)) tt
     (subst (λ (s : Slot). DoesAnywhere (state_of c.self.inside) (command.Send c.args.channel c.args.chunk) (Sent (Some
     s))
     (record (state_of c.self.inside) {

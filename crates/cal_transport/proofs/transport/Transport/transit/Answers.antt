@@ -8,6 +8,7 @@ use Rattle.cal_transport.specs.Run.{transit_list}
 use Rattle.cal_transport.specs.State.{TransportState, Represents}
 use Rattle.cal_transport.specs.StateOf.{state_of}
 use Rattle.cal_transport.specs.TransitLines.{lines_on}
+use Rattle.cal_transport.proofs.Standing.{inside_now}
 use Rattle.cal_transport.proofs.TransitChannels.{told_next, told_none, room_next, channels_many, all_few, none_at_all, none_on}
 use Rattle.cal_transport.proofs.transport.Transport.transit.Goals as goal
 use Rattle.cal_transport.proofs.transport.Transport.transit.Goals.{then-index-gt0, else-index-gt0}
@@ -18,7 +19,8 @@ returns-then-self-eq0 c = record {
       sym (append-nil c.args.into.now.items)
       ∙ ap (λ told. c.args.into.now.items ++ told)
       (sym (none_at_all (state_of c.self.inside) c.self.invariant.linked l
-      (subst (λ u. Represents u l) (sym c.self.view_is) r) c.if-self-eq0.true));
+      (subst (λ u. Represents u l) (sym c.self.view_is)
+      (inside_now c.self.inside c.self.invariant c.args.self.now c.self.view_is l r)) c.if-self-eq0.true));
 }
 
 pub channel_transit-requires-clause-room : goal.channel_transit-requires-clause-room
@@ -64,11 +66,12 @@ pub returns : goal.returns
 returns c = record {
   listed = λ l r. (
       let t = state_of c.self.inside in
-      let stands = subst (λ u. Represents u l) (sym c.self.view_is) r in
+      let inside = inside_now c.self.inside c.self.invariant c.args.self.now c.self.view_is l r in
+      let stands = subst (λ u. Represents u l) (sym c.self.view_is) inside in
       let many = channels_many t c.self.invariant.linked l stands in
       let past = c.loop-channel-test.false in
       let most = c.loop-channel.auto.channel-end in
-      c.loop-channel.invariant.listed l r
+      c.loop-channel.invariant.listed l inside
       ∙ ap (λ n. c.args.into.now.items ++ flat_map (lines_on l) (numbers_below n))
       (let e : c.loop-channel.channel ≡ length l.histories = omega arith in e));
 }

@@ -4,9 +4,10 @@ use Rattle.cal_transport.specs.declared.command.Command.TheVariants as command
 use Rattle.cal_transport.specs.declared.reply.Reply.TheVariants.{Written, Refused}
 use Rattle.cal_transport.specs.declared.reply.Refusal.TheVariants as refusal
 use Rattle.cal_transport.specs.ChunkEntry.{AreRising, HasNoEntry, IsFound}
-use Rattle.cal_transport.specs.State.{core_of, DoesAnywhere}
+use Rattle.cal_transport.specs.State.{core_of}
 use Rattle.cal_transport.specs.StateOf.{state_of}
 use Rattle.cal_transport.specs.Step.{after_step}
+use Rattle.cal_transport.proofs.Standing.{outside, unchanged}
 use Rattle.cal_transport.proofs.Changing.{not_true, not_false}
 use Rattle.cal_transport.proofs.Finding.{entries_rise}
 use Rattle.cal_transport.proofs.WriteCode.{write_unknown_does, write_ended_does, write_sent_does, write_held, write_outside_does, write_none_does, write_place, write_payload, written_linked, written_does}
@@ -21,14 +22,14 @@ find_entry-requires c = record {
 
 pub returns-in-None-clause-step : goal.returns-in-None-clause-step
 returns-in-None-clause-step c =
-    subst (λ t. DoesAnywhere t (command.Write c.args.chunk c.args.at c.args.bytes.now) (Refused refusal.NotLoaned) t) c.self.view_is
+    unchanged c.self.inside c.self.invariant c.args.self.now c.self.view_is (command.Write c.args.chunk c.args.at c.args.bytes.now) (Refused refusal.NotLoaned) tt
     (write_unknown_does (state_of c.self.inside) c.args.chunk c.args.at c.args.bytes.now
     (subst (λ es. HasNoEntry es c.args.chunk) c.deref.ensures.value c.in-None.ensures.found))
 
 pub returns-then-not-found-clause-step : goal.returns-then-not-found-clause-step
 returns-then-not-found-clause-step c =
     let is = subst (λ es. IsFound es c.args.chunk c.in-Some.found) c.deref.ensures.value c.in-Some.ensures.found in
-    subst (λ t. DoesAnywhere t (command.Write c.args.chunk c.args.at c.args.bytes.now) (Refused refusal.NotLoaned) t) c.self.view_is
+    unchanged c.self.inside c.self.invariant c.args.self.now c.self.view_is (command.Write c.args.chunk c.args.at c.args.bytes.now) (Refused refusal.NotLoaned) tt
     (write_ended_does (state_of c.self.inside) c.args.chunk c.args.at c.args.bytes.now c.in-Some.found is
     (not_true c.in-Some.found.entry.loaned c.if-not-found.true))
 
@@ -36,7 +37,7 @@ pub returns-then-found-clause-step : goal.returns-then-found-clause-step
 returns-then-found-clause-step c =
     let is = subst (λ es. IsFound es c.args.chunk c.in-Some.found) c.deref.ensures.value c.in-Some.ensures.found in
     let loaned = not_false c.in-Some.found.entry.loaned c.if-not-found.false in
-    subst (λ t. DoesAnywhere t (command.Write c.args.chunk c.args.at c.args.bytes.now) (Refused refusal.WriteAfterSend) t) c.self.view_is
+    unchanged c.self.inside c.self.invariant c.args.self.now c.self.view_is (command.Write c.args.chunk c.args.at c.args.bytes.now) (Refused refusal.WriteAfterSend) tt
     (write_sent_does (state_of c.self.inside) c.args.chunk c.args.at c.args.bytes.now c.in-Some.found is loaned
     c.if-found.true)
 
@@ -56,7 +57,7 @@ returns-then-exceeds_bucket-clause-step c =
     let loaned = not_false c.in-Some.found.entry.loaned c.if-not-found.false in
     let past = ltb-true c.size_at-size.result (c.args.at + length c.args.bytes.now)
     (sym c.if-exceeds_bucket.ensures.passes) in
-    subst (λ t. DoesAnywhere t (command.Write c.args.chunk c.args.at c.args.bytes.now) (Refused refusal.OutsideChunk) t) c.self.view_is
+    unchanged c.self.inside c.self.invariant c.args.self.now c.self.view_is (command.Write c.args.chunk c.args.at c.args.bytes.now) (Refused refusal.OutsideChunk) tt
     (write_outside_does (state_of c.self.inside) c.args.chunk c.args.at c.args.bytes.now c.in-Some.found is loaned
     c.if-found.false c.size_at-size.result c.size_at-size.ensures.size past)
 
@@ -66,7 +67,7 @@ returns-then-is_empty-clause-step c =
     let loaned = not_false c.in-Some.found.entry.loaned c.if-not-found.false in
     let within = ltb-false c.size_at-size.result (c.args.at + length c.args.bytes.now)
     (sym c.if-exceeds_bucket.ensures.passes) in
-    subst (λ t. DoesAnywhere t (command.Write c.args.chunk c.args.at c.args.bytes.now) Written t) c.self.view_is
+    unchanged c.self.inside c.self.invariant c.args.self.now c.self.view_is (command.Write c.args.chunk c.args.at c.args.bytes.now) Written tt
     (write_none_does (state_of c.self.inside) c.args.chunk c.args.at c.args.bytes.now c.in-Some.found is loaned
     c.if-found.false c.size_at-size.result c.size_at-size.ensures.size within (eqb-true (length c.args.bytes.now) 0 (sym c.if-is_empty.ensures)))
 
@@ -151,8 +152,8 @@ returns-clause-step c =
     let loaned = not_false c.in-Some.found.entry.loaned c.if-not-found.false in
     let within = ltb-false c.size_at-size.result (c.args.at + length c.args.bytes.now)
     (sym c.if-exceeds_bucket.ensures.passes) in
-    subst (λ t. DoesAnywhere t (command.Write c.args.chunk c.args.at c.args.bytes.now) Written
-    (record (state_of c.self.inside) { memory_registry = c.put_bytes.new.reg })) c.self.view_is
+    outside c.self.inside c.self.invariant c.args.self.now c.self.view_is (record (state_of c.self.inside) { memory_registry = c.put_bytes.new.reg })
+    (command.Write c.args.chunk c.args.at c.args.bytes.now) Written tt
     (written_does (state_of c.self.inside) c.args.chunk c.args.at c.args.bytes.now c.in-Some.found is loaned
     c.if-found.false c.size_at-size.result c.size_at-size.ensures.size within
     c.from_offset_and_segment_id-pointer.result
