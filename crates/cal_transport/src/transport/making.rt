@@ -33,6 +33,7 @@ impl Transport {
         ensures error { IfErr result (IsNotOpened settings.now) }
         ensures made { OnOk result (create_cause settings.now ≡ None) }
         ensures first { IfOk result (λ transport. StandsFor transport (first_ledger settings.now)) }
+        ensures nothing { IfOk result (λ transport. transport.in_transit ≡ 0) }
         ensures room { IfOk result (λ transport. loans ≤ transport.spare) }
     {
         if let Some(cause) = settings.create_cause() {
@@ -46,6 +47,7 @@ impl Transport {
     fn make(alloc: Global, settings: &Settings, loans: usize) -> Result<Transport, AllocError>
         requires made { create_cause settings.now ≡ None }
         ensures first { IfOk result (λ transport. StandsFor transport (first_ledger settings.now)) }
+        ensures nothing { IfOk result (λ transport. transport.in_transit ≡ 0) }
         ensures room { IfOk result (λ transport. loans ≤ transport.spare) }
     {
         let settings = settings.clamped();

@@ -1,4 +1,4 @@
-use Rattle.std.proofs.Common.{◌-◌, map, vec_items, vec_len, vec_capacity, refl, sym, subst}
+use Rattle.std.proofs.Common.{◌-◌, ◌≤◌, map, vec_items, vec_len, vec_capacity, refl, sym, subst, arith}
 use Rattle.cal_transport.specs.Ledger.{first_ledger}
 use Rattle.cal_transport.specs.Opening.{CanOpen}
 use Rattle.cal_transport.specs.State.{TransportState}
@@ -95,3 +95,10 @@ returns-clause-first c =
     } in
     stands_first t c.args.settings.now c.requires.made
     (represents_first t new c.args.settings.now c.clamped-settings.ensures.value c.requires.made)
+
+pub returns-clause-nothing : goal.returns-clause-nothing
+returns-clause-nothing c = refl
+
+pub returns-clause-room : goal.returns-clause-room
+returns-clause-room c =
+    let room = c.in_ok-entries.ensures.capacity in let none = c.in_ok-entries.ensures.len in omega arith
