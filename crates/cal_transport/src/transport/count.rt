@@ -10,7 +10,6 @@ use crate::transport::parts::{MemoryRegistry, TransportMemory, TransportView};
 
 impl Transport {
     /// How many segments the memory has and how many the view has mapped, and the segment that loans are served from.
-    #[tactic(none)]
     pub fn count(&self) -> Count
         ensures step { CountDoes self.now result }
     {

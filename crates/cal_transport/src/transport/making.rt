@@ -43,7 +43,6 @@ impl Transport {
     }
 
     /// A transport with these settings, with which one can be made.
-    #[tactic(none)]
     fn make(alloc: Global, settings: &Settings, loans: usize) -> Result<Transport, AllocError>
         requires made { create_cause settings.now ≡ None }
         ensures first { IfOk result (λ transport. StandsFor transport (first_ledger settings.now)) }
