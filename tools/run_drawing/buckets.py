@@ -96,8 +96,7 @@ class Buckets:
 
     def _empty(self, row):
         """The time in which the bucket is there, and has no chunk where nothing is drawn over it."""
-        left = self.layout.columns.start(row.since)
-        right = self.layout.columns.right
+        left, right = self.layout.span_of(row)
         return svg.rectangle(left, row.top, right - left, row.bottom - row.top, fill=EMPTY)
 
     def _box(self, row, chunk):

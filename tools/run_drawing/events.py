@@ -1,7 +1,7 @@
 """What is drawn for single commands: marks, the way of a chunk that overflow sent back, and refusals."""
 from . import svg
 from .marks import shape
-from .style import COLUMN, GRID, LANE, OVERFLOW, REFUSED_BAND
+from .style import COLUMN, GRID, OVERFLOW, REFUSED, REFUSED_BAND
 
 # Marks that belong to no bucket stand below the replies.
 WITHOUT_BUCKET = ("refusal", "none")
@@ -17,24 +17,32 @@ class Events:
         self.events = events
 
     def bands(self):
-        """The column of each refused command."""
+        """The column of each refused command, over what lies below the bars."""
         top = self.heading.commands_top
         height = self.layout.bottom - top
         return [
             svg.rectangle(
-                self.layout.columns.edge(event.command), top, COLUMN, height, fill=REFUSED_BAND
+                self.layout.columns.edge(event.command),
+                top,
+                COLUMN,
+                height,
+                fill=REFUSED,
+                fill_opacity=REFUSED_BAND,
             )
             for event in self.events
             if event.kind == "refusal"
         ]
 
     def grid(self, part):
-        """A line down each row, at each command."""
-        return [
-            svg.line(x, row.top, x, row.bottom, stroke=GRID)
-            for row in self.layout.rows.values()
-            for x in map(self.layout.columns.middle, part.numbers())
-        ]
+        """A line down each row, at each command for which its bucket is there."""
+        middles = [self.layout.columns.middle(number) for number in part.numbers()]
+        lines = []
+        for row in self.layout.rows.values():
+            left, right = self.layout.span_of(row)
+            lines += [
+                svg.line(x, row.top, x, row.bottom, stroke=GRID) for x in middles if left < x < right
+            ]
+        return lines
 
     def overflow_lines(self):
         """From each chunk that was sent to the one that came back for it."""

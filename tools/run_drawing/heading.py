@@ -9,8 +9,12 @@ from .text import letters_within, wrapped
 MOST_COMMAND_LINES = 5
 MOST_REPLY_LINES = 7
 
-# The letters of a line of settings.
-SETTINGS_LENGTH = 110
+# The letters of a line of settings, and as many lines as they may have.
+SETTINGS_LENGTH = 116
+MOST_SETTINGS_LINES = 4
+
+# A space at which no line ends.
+NO_BREAK = "\u00a0"
 
 
 @dataclass(frozen=True)
@@ -29,8 +33,8 @@ class Heading:
 
     def __init__(self, title, script, replies, part):
         self.title = title
-        pairs = [f"{name} {value}" for name, value in script.settings.items()]
-        self.settings = wrapped("settings: " + ", ".join(pairs), SETTINGS_LENGTH, 3)
+        pairs = [f"{name}{NO_BREAK}{value}" for name, value in script.settings.items()]
+        self.settings = wrapped(", ".join(pairs), SETTINGS_LENGTH, MOST_SETTINGS_LINES)
         self.cells = [
             _cell(script.commands[number - 1], replies.answers[number - 1])
             for number in part.numbers()

@@ -4,8 +4,11 @@ from dataclasses import dataclass
 from .style import COLUMN, HEADING, LANE, MARGIN, ROW_GAP, SMALL, TEXT
 from .text import width_of
 
-# A drawing is as wide as its title and legend need.
-LEAST_WIDTH = 720
+# A drawing is at least as wide as its settings need.
+LEAST_WIDTH = 740
+
+# What a row has below its last lane.
+BELOW = 3
 
 
 @dataclass(frozen=True)
@@ -43,7 +46,7 @@ class Row:
     """A bucket in its place: the middles of its lanes, downwards."""
 
     bucket: object
-    since: int
+    segment: object
     top: float
 
     @property
@@ -64,12 +67,12 @@ class Row:
     def bottom(self):
         """Where the row ends; a bucket with no chunk has no lanes."""
         lanes = 2 + len(self.bucket.channels) if self.bucket.chunks else 1
-        return self.top + LANE * lanes
+        return self.top + LANE * lanes + BELOW
 
 
 @dataclass(frozen=True)
 class Layout:
-    """The whole: columns, headings of segments with their tops, rows by bucket, and the edges."""
+    """The whole: columns, headings of segments and notes with their tops, rows by bucket, and the edges."""
 
     columns: Columns
     headings: list
@@ -78,15 +81,18 @@ class Layout:
     bottom: float
     width: float
 
-    def row_of(self, slot):
-        """The row of the bucket of this slot, if it is drawn."""
-        return self.rows.get((slot.segment, slot.place))
+    def span_of(self, row):
+        """From where to where the bucket of a row is there."""
+        segment = row.segment
+        return self.columns.start(segment.since), self.columns.end(segment.until)
 
     def lane_of(self, slot, channel):
-        """The middle of a chunk's lane on a channel, or of its loan where there is none; none where it isn't drawn."""
-        row = self.row_of(slot)
-        if row is None or channel is None:
-            return row and row.loans
+        """The middle of a chunk's lane on a channel, or of its loan for no channel; none where it isn't drawn."""
+        row = self.rows.get((slot.segment, slot.place))
+        if row is None:
+            return None
+        if channel is None:
+            return row.loans
         return row.channel(channel) if channel in row.bucket.channels else None
 
 
@@ -94,15 +100,15 @@ def layout_of(part, rows, transit, top):
     """Puts the rows below this top, and the columns beside the names of rows."""
     columns = Columns(MARGIN + _names_width(rows), part.first, part.last)
     headings, notes, placed = [], [], {}
-    for segment in rows.segments:
-        headings.append((segment.heading, top))
+    for group in rows.groups:
+        headings.append((group.heading, top))
         top += HEADING
-        for bucket in segment.buckets:
-            row = Row(bucket, segment.since, top)
+        for bucket in group.buckets:
+            row = Row(bucket, group.segment, top)
             placed[(bucket.segment, bucket.place)] = row
             top = row.bottom + ROW_GAP
-        if segment.empty:
-            notes.append((f"and {segment.empty} more without a chunk", top))
+        if group.empty:
+            notes.append((f"and {group.empty} more without a chunk", top))
             top += LANE
     longest = max((width_of(line.text, TEXT) + ROW_GAP for line in transit), default=0)
     width = max(columns.right + longest + MARGIN, LEAST_WIDTH)
@@ -121,7 +127,7 @@ def place_name(bucket):
 
 def _names_width(rows):
     """The width of the names of buckets and lanes, with gaps."""
-    buckets = [bucket for segment in rows.segments for bucket in segment.buckets]
+    buckets = [bucket for group in rows.groups for bucket in group.buckets]
     places = [width_of(place_name(bucket), TEXT) for bucket in buckets]
     lanes = [
         width_of(lane_name(channel), SMALL) for bucket in buckets for channel in bucket.channels

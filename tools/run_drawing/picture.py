@@ -7,7 +7,7 @@ from .layout import layout_of
 from .legend import legend
 from .rows import rows_of
 from .story import story_of
-from .style import INK, MARGIN, PALE_INK, PAPER, ROW_GAP, TEXT
+from .style import INK, LINE, MARGIN, PALE_INK, PAPER, ROW_GAP, SMALL, TEXT
 
 
 def picture_of(name, script, replies, part):
@@ -25,27 +25,27 @@ def picture_of(name, script, replies, part):
     below, bottom = legend(top, layout.width)
     content = [
         svg.rectangle(0, 0, layout.width, bottom + MARGIN, fill=PAPER),
-        *events.bands(),
         *buckets.backgrounds(),
+        *events.bands(),
         *events.grid(part),
         *events.overflow_lines(),
         *buckets.bars(),
         *events.marks(),
         *heading.drawn(layout.columns),
-        *_transit(transit, layout),
+        *_transit(transit, layout, heading.replies_top + LINE),
         *notes,
         *below,
     ]
     return svg.document(layout.width, bottom + MARGIN, title, content)
 
 
-def _transit(transit, layout):
-    """The transit list, each line beside the lane that it tells of."""
-    parts = []
+def _transit(transit, layout, top):
+    """The transit list under its name, each line beside the lane that it tells of."""
+    x = layout.columns.right + ROW_GAP
+    parts = [svg.words("transit list", x, top, SMALL, fill=PALE_INK)] if transit else []
     for line in transit:
         y = layout.lane_of(line.slot, line.channel)
         if y is not None:
-            x = layout.columns.right + ROW_GAP
             parts.append(svg.words(line.text, x, y + DESCENT, TEXT, class_="transit", fill=INK))
     return parts
 

@@ -19,11 +19,10 @@ class Bucket:
 
 
 @dataclass
-class Segment:
-    """A segment: from which command on it is there, its buckets, and how many are drawn in no row."""
+class Group:
+    """The rows of a segment: what the story has of it, its buckets, and how many are drawn in no row."""
 
-    number: int
-    since: int
+    segment: object
     heading: str
     buckets: list
     empty: int = 0
@@ -33,7 +32,7 @@ class Segment:
 class Rows:
     """All rows of a drawing, and how many lanes were left out."""
 
-    segments: list
+    groups: list
     lanes_left_out: int = 0
 
 
@@ -46,9 +45,14 @@ def rows_of(story, part):
         buckets = _touched(story, part, buckets)
         left_out = lanes - sum(1 + len(bucket.channels) for bucket in buckets.values())
     numbers = {segment for segment, _ in buckets}
-    numbers.add(_current_before(story, part))
-    segments = [_segment(story, number, buckets, left_out == 0) for number in sorted(numbers)]
-    return Rows(segments, left_out)
+    if not left_out:
+        numbers |= {
+            number
+            for number, segment in story.segments.items()
+            if part.meets(segment.since, segment.until)
+        }
+    groups = [_group(story, number, buckets, left_out == 0) for number in sorted(numbers)]
+    return Rows(groups, left_out)
 
 
 def _buckets(story, part):
@@ -87,33 +91,21 @@ def _touched(story, part, buckets):
     }
 
 
-def _current_before(story, part):
-    """The segment that the last loan before this part was served from; it is the greatest number so far."""
-    before = [chunk.slot.segment for chunk in story.chunks if chunk.loaned < part.first]
-    return max(before, default=0)
-
-
-def _since(story, number):
-    """The command from which on a segment is there: the first loan in it made it, but for segment 0."""
-    loans = (chunk.loaned for chunk in story.chunks if chunk.slot.segment == number)
-    return 0 if number == 0 else next(loans, 0)
-
-
-def _segment(story, number, buckets, has_empty):
-    """A segment's rows: its buckets with chunks, and a few empty ones where their places are known."""
-    used = {place: bucket for (segment, place), bucket in buckets.items() if segment == number}
+def _group(story, number, buckets, has_empty):
+    """The rows of a segment: its buckets with chunks, and a few empty ones where their places are known."""
+    segment = story.segments[number]
+    used = {place: bucket for (where, place), bucket in buckets.items() if where == number}
     heading = f"segment {number}"
     empty = 0
-    if number in story.segments:
-        size, count = story.segments[number]
+    if segment.bucket_count is not None:
+        size, count = segment.bucket_size, segment.bucket_count
         heading += f": {_counted(count, 'bucket')} of {_counted(size, 'byte')}"
         empty = max(count - len(used), 0) if has_empty else 0
-        if empty <= MOST_EMPTY and has_empty:
+        if has_empty and empty <= MOST_EMPTY:
             for place in range(0, size * count, size):
                 used.setdefault(place, Bucket(number, place))
             empty = 0
-    ordered = [used[place] for place in sorted(used)]
-    return Segment(number, _since(story, number), heading, ordered, empty)
+    return Group(segment, heading, [used[place] for place in sorted(used)], empty)
 
 
 def _counted(count, word):

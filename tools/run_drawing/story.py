@@ -64,8 +64,21 @@ class Event:
 
 
 @dataclass
+class Segment:
+    """A segment: the command whose loan made it, or none, and the one with which it went, if any.
+
+    The size and the number of its buckets are known where the settings or a count told them.
+    """
+
+    since: int
+    until: int | None = None
+    bucket_size: int | None = None
+    bucket_count: int | None = None
+
+
+@dataclass
 class Story:
-    """All that happened: chunks in the order of their loans, events in that of the commands."""
+    """All that happened: chunks in the order of their loans, events in that of the commands, and segments by number."""
 
     chunks: list = field(default_factory=list)
     events: list = field(default_factory=list)
@@ -74,11 +87,13 @@ class Story:
 
 
 class _Teller:
-    """Makes a story, one command after another; at any time it knows the live chunks."""
+    """Makes a story, one command after another; at any time it knows the live chunks, by name and by segment."""
 
     def __init__(self):
         self.story = Story()
         self.live = {}
+        self.live_in = {0: 0}
+        self.current = 0
 
     def tell(self, command, reply):
         """Adds what one command did."""
@@ -115,11 +130,24 @@ class _Teller:
         if not chunk.is_live:
             chunk.ended = command.number
             del self.live[chunk.slot.chunk]
+            self.live_in[chunk.slot.segment] -= 1
+            self._retire(chunk.slot.segment, command)
+
+    def _retire(self, number, command):
+        """A segment goes with its last chunk, unless it is the one that loans are served from."""
+        if number != self.current and self.live_in[number] == 0:
+            self.story.segments[number].until = command.number
 
     def _loan(self, command, reply):
         chunk = Chunk(reply.slot, command.number)
         self.story.chunks.append(chunk)
         self.live[chunk.slot.chunk] = chunk
+        number = chunk.slot.segment
+        self.live_in[number] = self.live_in.get(number, 0) + 1
+        if number not in self.story.segments:
+            self.story.segments[number] = Segment(command.number)
+            before, self.current = self.current, number
+            self._retire(before, command)
 
     def _write(self, command, reply):
         self._mark("write", command, self._chunk(command.chunk, command))
@@ -161,15 +189,18 @@ class _Teller:
 
     def _count(self, command, reply):
         _, _, current, size, buckets = reply.counted
-        self.story.segments[current] = (size, buckets)
+        if current in self.story.segments:
+            segment = self.story.segments[current]
+            segment.bucket_size, segment.bucket_count = size, buckets
 
 
 def story_of(script, replies):
-    """The story of a whole run; of each segment that the settings or a count tell of, size and number of buckets."""
+    """The story of a whole run."""
     if len(script.commands) != len(replies.answers):
         raise NoDrawing(f"{len(script.commands)} commands have {len(replies.answers)} replies")
     teller = _Teller()
-    teller.story.segments[0] = (script.bucket_size, script.bucket_count)
+    first = Segment(0, bucket_size=script.bucket_size, bucket_count=script.bucket_count)
+    teller.story.segments[0] = first
     for command, reply in zip(script.commands, replies.answers):
         teller.tell(command, reply)
     teller.story.transit = replies.transit

@@ -39,10 +39,14 @@ def _pieces(text, length):
 
 
 def _parts(word, length):
-    """A word that is too long for a line, in parts: at its capital letters, and wherever a part is still too long."""
+    """A word that is too long for a line, in parts: at its capital letters, and after an even number of letters."""
     if len(word) <= length:
         return [word]
     parts = []
+    even = max(length - length % 2, 1)
     for part in re.findall(r"[A-Z]?[^A-Z]+|[A-Z]", word):
-        parts += [part[start : start + length] for start in range(0, len(part), length)]
+        if len(part) <= length:
+            parts.append(part)
+        else:
+            parts += [part[start : start + even] for start in range(0, len(part), even)]
     return parts
