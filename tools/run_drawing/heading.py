@@ -56,7 +56,7 @@ class Heading:
         for cell in self.cells:
             parts.append(self._edge(columns.edge(cell.number)))
             parts.append(self._cell(cell, columns.middle(cell.number)))
-        parts.append(self._edge(columns.right))
+        parts.append(self._edge(columns.edge(columns.last + 1)))
         return parts
 
     def _names(self, columns):

@@ -7,13 +7,16 @@ from .text import width_of
 # A drawing is at least as wide as its settings need.
 LEAST_WIDTH = 740
 
+# The room beside the columns.
+AROUND = COLUMN / 2
+
 # What a row has below its last lane.
 BELOW = 3
 
 
 @dataclass(frozen=True)
 class Columns:
-    """The columns of the commands that are drawn."""
+    """The columns of the commands that are drawn, with some room before and after them for what was and what stays."""
 
     left: float
     first: int
@@ -21,12 +24,13 @@ class Columns:
 
     @property
     def right(self):
-        """Where the last column ends."""
-        return self.left + COLUMN * (self.last - self.first + 1)
+        """Where the room after the last column ends."""
+        return self.edge(self.last + 1) + AROUND
 
     def edge(self, number):
         """Where the column of a command begins."""
-        return self.left + COLUMN * (number - self.first)
+        before = 0 if self.first == 1 else AROUND
+        return self.left + before + COLUMN * (number - self.first)
 
     def middle(self, number):
         """Where the mark of a command stands."""
@@ -108,7 +112,8 @@ def layout_of(part, rows, transit, top):
             placed[(bucket.segment, bucket.place)] = row
             top = row.bottom + ROW_GAP
         if group.empty:
-            notes.append((f"and {group.empty} more without a chunk", top))
+            count = f"and {group.empty} more" if group.buckets else str(group.empty)
+            notes.append((f"{count} without a chunk", top))
             top += LANE
     longest = max((width_of(line.text, TEXT) + ROW_GAP for line in transit), default=0)
     width = max(columns.right + longest + MARGIN, LEAST_WIDTH)
