@@ -6,7 +6,7 @@ FONT = "DejaVu Sans Mono, Menlo, Consolas, monospace"
 STATES = {
     "queued": ("#fbe58a", "#1a1a1a"),
     "borrowed": ("#e89a3c", "#1a1a1a"),
-    "loaned": ("#3f7ea6", "#ffffff"),
+    "loaned": ("#3b789d", "#ffffff"),
     "completed": ("#553169", "#ffffff"),
 }
 INK = "#1a1a1a"
