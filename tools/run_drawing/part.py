@@ -42,7 +42,7 @@ def part_of(count, first, last):
     """The part that is asked for; without a first or a last command it reaches to the script's end there."""
     if count == 0:
         raise NoDrawing("the script has no command")
-    part = Part(first or 1, last or count, count)
+    part = Part(1 if first is None else first, count if last is None else last, count)
     if not 1 <= part.first <= part.last <= count:
         raise NoDrawing(
             f"the script has the commands 1 to {count}, and so no part from {part.first} to {part.last}"

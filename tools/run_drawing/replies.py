@@ -1,25 +1,29 @@
 """Reads the replies that the program wrote, as values."""
+import re
 from dataclasses import dataclass
 
 from .no_drawing import NoDrawing
 
-# The forms of replies: the words that a line begins with, and what follows them.
-SLOT = ("chunk", "slot")
+# Numbers have 64 bits.
+NUMBER = "[0-9]{1,20}"
+SLOT = f"{NUMBER} {NUMBER}:{NUMBER}"
+
+# The forms of replies, by the words that they begin with.
 REPLY_FORMS = {
-    "loaned": SLOT,
-    "written": (),
-    "sent": (),
-    "sent back": SLOT,
-    "received": SLOT,
-    "received none": (),
-    "bytes": ("bytes",),
-    "released": (),
-    "reclaimed": SLOT,
-    "reclaimed none": (),
-    "discarded": (),
-    "counted": ("active", "mapped", "current", "size", "buckets"),
-    "refused": ("refusal",),
-    "transit": ("channel", *SLOT),
+    "loaned": f"loaned {SLOT}",
+    "written": "written",
+    "sent": "sent",
+    "sent back": f"sent back {SLOT}",
+    "received": f"received {SLOT}",
+    "received none": "received none",
+    "bytes": "bytes (-|[0-9a-f]+)",
+    "released": "released",
+    "reclaimed": f"reclaimed {SLOT}",
+    "reclaimed none": "reclaimed none",
+    "discarded": "discarded",
+    "counted": "counted" + 5 * f" {NUMBER}",
+    "refused": "refused [A-Za-z]+",
+    "transit": f"transit {NUMBER} {SLOT}",
 }
 
 
@@ -72,7 +76,10 @@ def read_replies(data):
         _no_run(line)
         replies.append(_reply(line))
     answers = [reply for reply in replies if reply.form != "transit"]
-    return Replies(answers, replies[len(answers):])
+    transit = replies[len(answers) :]
+    if any(reply.form != "transit" for reply in transit):
+        raise NoDrawing("the transit list comes before the last reply to a command")
+    return Replies(answers, transit)
 
 
 def _no_run(line):
@@ -90,6 +97,6 @@ def _reply(line):
     words = line.split(" ")
     for length in (2, 1):
         form = " ".join(words[:length])
-        if form in REPLY_FORMS and len(words) == length + len(REPLY_FORMS[form]):
+        if form in REPLY_FORMS and re.fullmatch(REPLY_FORMS[form], line):
             return Reply(line, form)
     raise NoDrawing(f"the program writes no such reply: {line}")

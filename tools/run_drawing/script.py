@@ -94,7 +94,7 @@ def _settings(line):
         raise NoDrawing("line 1 of the script has no settings")
     settings = dict(zip(SETTING_NAMES, words[1:]))
     for name in ("size", "alignment", "count"):
-        if not settings[name].isdigit():
+        if not _is_number(settings[name]):
             raise NoDrawing("line 1 of the script has no settings")
     return settings
 
@@ -104,7 +104,12 @@ def _command(number, line):
     form = COMMAND_FORMS.get(words[0])
     fits = form is not None and len(words) == 1 + len(form)
     if not fits or not all(
-        word.isdigit() for name, word in zip(form, words[1:]) if name != "bytes"
+        name == "bytes" or _is_number(word) for name, word in zip(form, words[1:])
     ):
         raise NoDrawing(f"line {number + 1} of the script is no command")
     return Command(number, line)
+
+
+def _is_number(word):
+    """Whether a word can be a number of 64 bits."""
+    return word.isdigit() and len(word) <= 20

@@ -1,4 +1,8 @@
-"""Tells what became of each chunk, from the commands and their replies alone."""
+"""Tells what became of each chunk, from the commands and their replies alone.
+
+Which chunk was loaned, sent, taken or given back is read off these. Two things are worked out: a chunk's life ends where it
+is neither loaned nor in transit, and a segment goes with its last chunk, unless loans are served from it.
+"""
 from dataclasses import dataclass, field
 
 from .no_drawing import NoDrawing
@@ -65,7 +69,7 @@ class Event:
 
 @dataclass
 class Segment:
-    """A segment: the command whose loan made it, or none, and the one with which it went, if any.
+    """A segment: the command whose loan made it, 0 for the first one, and the command with which it went, if any.
 
     The size and the number of its buckets are known where the settings or a count told them.
     """
@@ -140,6 +144,8 @@ class _Teller:
 
     def _loan(self, command, reply):
         chunk = Chunk(reply.slot, command.number)
+        if chunk.slot.chunk != command.number:
+            raise NoDrawing(f"command {command.number} is a loan of chunk {chunk.slot.chunk}")
         self.story.chunks.append(chunk)
         self.live[chunk.slot.chunk] = chunk
         number = chunk.slot.segment
@@ -197,7 +203,8 @@ class _Teller:
 def story_of(script, replies):
     """The story of a whole run."""
     if len(script.commands) != len(replies.answers):
-        raise NoDrawing(f"{len(script.commands)} commands have {len(replies.answers)} replies")
+        counts = len(script.commands), len(replies.answers)
+        raise NoDrawing("commands in the script: {}, and replies to commands: {}".format(*counts))
     teller = _Teller()
     first = Segment(0, bucket_size=script.bucket_size, bucket_count=script.bucket_count)
     teller.story.segments[0] = first
