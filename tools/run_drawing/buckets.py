@@ -54,10 +54,11 @@ class Buckets:
         return parts
 
     def bars(self):
-        """The bars of loans and of the states on channels, over everything that runs from row to row."""
+        """The names of chunks, and the bars of their states, over everything that runs from row to row."""
         parts = []
         for row in self.layout.rows.values():
             for chunk in row.bucket.chunks:
+                parts += self._name(row, chunk)
                 if self.part.meets(chunk.loaned, chunk.discarded):
                     span = ("loaned", chunk.loaned, chunk.discarded)
                     parts.append(self._bar(span, row.loans, chunk, None))
@@ -100,7 +101,7 @@ class Buckets:
         return svg.rectangle(left, row.top, right - left, row.bottom - row.top, fill=EMPTY)
 
     def _box(self, row, chunk):
-        """The box of a chunk's whole life, open where that goes on outside this part, with its name."""
+        """The box of a chunk's whole life, open where that goes on outside this part."""
         left = self.layout.columns.start(chunk.loaned)
         right = self.layout.columns.end(chunk.ended)
         box = svg.rectangle(left, row.top, right - left, row.bottom - row.top, fill=PAPER)
@@ -110,13 +111,19 @@ class Buckets:
         if self.part.has(chunk.ended):
             edges.append((right, row.top, right, row.bottom))
         lines = [svg.line(*edge, stroke=EDGE, stroke_width=1.5) for edge in edges]
-        text = f"chunk {chunk.slot.chunk}"
-        name = text if width_of(text, TEXT) < right - left - 8 else str(chunk.slot.chunk)
-        if width_of(name, TEXT) < right - left - 8:
-            y = row.names + DESCENT
-            lines.append(svg.words(name, left + 6, y, TEXT, font_weight="bold", fill=INK))
-        content = svg.titled(f"{text} in {place_name(row.bucket)}", box + "".join(lines))
-        return svg.element("g", {"class": "chunk"}, content)
+        text = f"chunk {chunk.slot.chunk} in {place_name(row.bucket)}"
+        return svg.element("g", {"class": "chunk"}, svg.titled(text, box + "".join(lines)))
+
+    def _name(self, row, chunk):
+        """The name of a chunk, or its number alone, at the start of its box where that is wide enough."""
+        left = self.layout.columns.start(chunk.loaned)
+        width = self.layout.columns.end(chunk.ended) - left - 8
+        number = str(chunk.slot.chunk)
+        fitting = [name for name in (f"chunk {number}", number) if width_of(name, TEXT) < width]
+        y = row.names + DESCENT
+        return [
+            svg.words(name, left + 6, y, TEXT, font_weight="bold", fill=INK) for name in fitting[:1]
+        ]
 
     def _bar(self, span, y, chunk, channel):
         """The bar of a state, with its word where that fits before the next mark."""

@@ -134,7 +134,6 @@ def _names_width(rows):
     """The width of the names of buckets and lanes, with gaps."""
     buckets = [bucket for group in rows.groups for bucket in group.buckets]
     places = [width_of(place_name(bucket), TEXT) for bucket in buckets]
-    lanes = [
-        width_of(lane_name(channel), SMALL) for bucket in buckets for channel in bucket.channels
-    ]
-    return max(places, default=0) + max(lanes, default=0) + 3 * ROW_GAP + width_of("loan", SMALL)
+    lanes = [lane_name(channel) for bucket in buckets for channel in bucket.channels]
+    widest = max(width_of(name, SMALL) for name in [*lanes, "command"])
+    return max(places, default=0) + widest + 3 * ROW_GAP

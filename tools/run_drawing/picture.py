@@ -8,13 +8,17 @@ from .legend import legend
 from .rows import rows_of
 from .story import story_of
 from .style import INK, LINE, MARGIN, PALE_INK, PAPER, ROW_GAP, SMALL, TEXT
+from .text import shortened
+
+# A script's name may be longer than a drawing is wide.
+NAME_LENGTH = 40
 
 
 def picture_of(name, script, replies, part):
     """The text of the SVG of this part of a run, under the name of its script."""
     story = story_of(script, replies)
     rows = rows_of(story, part)
-    title = f"{name}: commands {part.first} to {part.last} of {part.count}"
+    title = f"{shortened(name, NAME_LENGTH)}: commands {part.first} to {part.last} of {part.count}"
     heading = Heading(title, script, replies, part)
     transit = story.transit if part.is_end else []
     layout = layout_of(part, rows, transit, heading.bottom)

@@ -3,6 +3,10 @@ import re
 from xml.sax.saxutils import escape, quoteattr
 
 from .style import FONT
+from .text import shortened
+
+# A text that is shown where something is pointed at has no more letters.
+MOST_LETTERS = 200
 
 # What no XML text may have.
 NO_LETTERS = re.compile("[^\t\n\r\x20-\ud7ff\ue000-\ufffd\U00010000-\U0010ffff]")
@@ -26,7 +30,7 @@ def element(name, attributes, content=""):
 
 def titled(text, content):
     """The content of an element that a viewer shows with this text where it is pointed at."""
-    return element("title", {}, letters(text)) + content
+    return element("title", {}, letters(shortened(text, MOST_LETTERS))) + content
 
 
 def letters(text):

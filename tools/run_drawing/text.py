@@ -15,6 +15,11 @@ def letters_within(width, size):
     return max(int(width / (size * LETTER)), 1)
 
 
+def shortened(text, length):
+    """The text, with dots in place of what is past so many letters."""
+    return text if len(text) <= length else text[: length - 1] + "…"
+
+
 def wrapped(text, length, most_lines):
     """The text in lines of at most so many letters; where it has too many lines, the last one ends with dots."""
     lines = []
@@ -25,7 +30,7 @@ def wrapped(text, length, most_lines):
             lines.append(piece)
     if len(lines) > most_lines:
         lines = lines[:most_lines]
-        lines[-1] = lines[-1][: length - 1] + "…"
+        lines[-1] = shortened(lines[-1] + "…", length)
     return lines
 
 
