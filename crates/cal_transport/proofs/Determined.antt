@@ -4,8 +4,8 @@ use Rattle.std.proofs.Common.{ℕ, zero, suc, ◌+◌, ◌-◌, ◌*◌, ◌/◌
 use Rattle.std.specs.List.{slice_get, list_any}
 use Rattle.std.proofs.lemmas.Bool.{true≢false, false_from_ne_true, eqb-true, eq-eqb, lt-ltb, and_from, or_left}
 use Rattle.std.proofs.lemmas.Bool.Decides.{nat_tests}
-use Rattle.std.proofs.lemmas.List.{length-map, slice_get-map}
-use Rattle.std.proofs.lemmas.Option.{same_Some, none-some}
+use Rattle.std.proofs.lemmas.List.{length-map}
+use Rattle.std.proofs.lemmas.Option.{same_Some, none-some, slice_get-map}
 use Rattle.cal_alloc.specs.Growth.{SegmentLayout}
 use Rattle.cal_alloc.specs.Pool.{Pool}
 use Rattle.cal_alloc.specs.PointerOffset.{offset_of, segment_of, pointer_offset}
@@ -162,9 +162,12 @@ queued_queue : (p : Core) (l : Ledger) (k : ℕ) (h : ChannelHistory) → Shows 
     IsQueue l h (p.channel k).submission.values (queued_names h)
 queued_queue p l k h shows here = record {
   values_are = (shows.channels k h here).queued;
-  moves = λ name has. or_left (has_name name (queued_names h)) (is_borrowed h name || has_name name (completed_names h))
-      has;
+  moves = λ name has. go (has_name name (queued_names h)) (is_borrowed h name) (has_name name (completed_names h)) has;
 }
+  where
+    go : (q b c : Bool) → q ≡ true → (q || b || c) ≡ true
+    go true b c has = refl
+    go false b c has = absurd (true≢false (sym has))
 
 completed_queue : (p : Core) (l : Ledger) (k : ℕ) (h : ChannelHistory) → Shows p l → slice_get l.histories k ≡ Some h →
     IsQueue l h (p.channel k).completion.values (completed_names h)

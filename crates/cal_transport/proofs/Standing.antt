@@ -41,15 +41,23 @@ IsNoLoan (command.Loan size alignment) = ⊥
 IsNoLoan asked = Unit {0}
 
 pub placeless : (l : Ledger) (asked : Command) (reply : Reply) → IsNoLoan asked → IsPlaceless l asked reply
-placeless l (command.Loan size alignment) reply no = absurd no
-placeless l (command.Write name at bytes) reply no = λ o a b. elim o [ None ↦ refl | Some why ↦ refl ]
-placeless l (command.Send channel name) reply no = λ o a b. elim o [ None ↦ refl | Some why ↦ refl ]
-placeless l (command.Receive channel) reply no = λ o a b. elim o [ None ↦ refl | Some why ↦ refl ]
-placeless l (command.Read channel name at length) reply no = λ o a b. elim o [ None ↦ refl | Some why ↦ refl ]
-placeless l (command.Release channel name) reply no = λ o a b. elim o [ None ↦ refl | Some why ↦ refl ]
-placeless l (command.Reclaim channel) reply no = λ o a b. elim o [ None ↦ refl | Some why ↦ refl ]
-placeless l (command.Discard name) reply no = λ o a b. elim o [ None ↦ refl | Some why ↦ refl ]
-placeless l command.Count reply no = λ o a b. elim o [ None ↦ refl | Some why ↦ refl ]
+placeless l (command.Loan size alignment) reply placed o a b = absurd placed
+placeless l (command.Write name at bytes) reply placed None a b = refl
+placeless l (command.Write name at bytes) reply placed (Some why) a b = refl
+placeless l (command.Send channel name) reply placed None a b = refl
+placeless l (command.Send channel name) reply placed (Some why) a b = refl
+placeless l (command.Receive channel) reply placed None a b = refl
+placeless l (command.Receive channel) reply placed (Some why) a b = refl
+placeless l (command.Read channel name at length) reply placed None a b = refl
+placeless l (command.Read channel name at length) reply placed (Some why) a b = refl
+placeless l (command.Release channel name) reply placed None a b = refl
+placeless l (command.Release channel name) reply placed (Some why) a b = refl
+placeless l (command.Reclaim channel) reply placed None a b = refl
+placeless l (command.Reclaim channel) reply placed (Some why) a b = refl
+placeless l (command.Discard name) reply placed None a b = refl
+placeless l (command.Discard name) reply placed (Some why) a b = refl
+placeless l command.Count reply placed None a b = refl
+placeless l command.Count reply placed (Some why) a b = refl
 
 module _ (t : TransportState) (kept : Ledger) (keeps : Represents t kept) where
   pub represents_any : (l : Ledger) → StandsFor t l → Represents t l
@@ -85,13 +93,13 @@ module _ (t : TransportState) (kept : Ledger) (keeps : Represents t kept) where
   -- an answer at any place
   pub does_anywhere : (new : TransportState) (asked : Command) (reply : Reply) → IsNoLoan asked →
       inner.DoesAnywhere t asked reply new → DoesAnywhere t asked reply new
-  does_anywhere new asked reply no does place l s =
+  does_anywhere new asked reply placed does place l s =
       let r = represents_any l s in
       let there = does r.place l r in
       let both = does place l r in (
         both.0,
         record {
-          reached = subst IsReached (placeless l asked reply no (cause l asked) r.place place)
+          reached = subst IsReached (placeless l asked reply placed (cause l asked) r.place place)
               (reached_step l r.place asked reply s.reached r.sound.names.before there.0);
           shows = both.1.shows;
         },
@@ -109,15 +117,15 @@ module _ (inside : Inside) (kept : IsKept inside) (now : TransportState) (seen :
   -- a command that changed something
   pub outside : (new : TransportState) (asked : Command) (reply : Reply) → IsNoLoan asked →
       inner.DoesAnywhere (state_of inside) asked reply new → DoesAnywhere now asked reply new
-  outside new asked reply no does =
-      does_anywhere now kept.ledger kept_now new asked reply no
+  outside new asked reply placed does =
+      does_anywhere now kept.ledger kept_now new asked reply placed
       (subst (λ t. inner.DoesAnywhere t asked reply new) seen does)
 
   -- a command that changed nothing
   pub unchanged : (asked : Command) (reply : Reply) → IsNoLoan asked →
       inner.DoesAnywhere (state_of inside) asked reply (state_of inside) → DoesAnywhere now asked reply now
-  unchanged asked reply no does =
-      does_anywhere now kept.ledger kept_now now asked reply no
+  unchanged asked reply placed does =
+      does_anywhere now kept.ledger kept_now now asked reply placed
       (subst (λ t. inner.DoesAnywhere t asked reply t) seen does)
 
   -- a loan, at a name above all names
