@@ -107,3 +107,4 @@ pub mod Viewed
 pub mod AccessCode
 pub mod LiveFew
 pub mod LoanCalls
+pub mod Serving

@@ -34,7 +34,7 @@ length_flat_map f [] = refl
 length_flat_map f (x ∷ xs) =
     length-append (f x) (flat_map f xs) ∙ ap (λ n. length (f x) + n) (length_flat_map f xs)
 
-length_filter : {A : Type 0} (p : A → Bool) (xs : List A) → length (filter p xs) ≡ total (λ x. one_if (p x)) xs
+pub length_filter : {A : Type 0} (p : A → Bool) (xs : List A) → length (filter p xs) ≡ total (λ x. one_if (p x)) xs
 length_filter p [] = refl
 length_filter p (x ∷ xs) = by_test (p x) (length_filter p xs)
   where

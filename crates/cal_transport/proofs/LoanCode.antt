@@ -78,20 +78,6 @@ module _ (t : TransportState) (name : ℕ) (below : AreBelow t.entries name) whe
     loan_refused_does why cause = loan_done_does t (Refused why) (λ l r.
         refused (core_of t) l name (command.Loan size alignment) why r.shows r.tracks (cause l r))
 
-    pub loan_bad_does : is_power_of_two alignment ≡ false →
-        Does t name (command.Loan size alignment) (Refused refusal.BadLayout) t
-    loan_bad_does bad = loan_refused_does refusal.BadLayout (λ l r. bad_cause l)
-      where
-        bad_cause : (l : Ledger) → loan_cause (current_segment l) size alignment ≡ Some refusal.BadLayout
-        bad_cause l = by_power (is_power_of_two alignment) bad
-            (cond (is_static l.settings.strategy) (static_cause (current_segment l) size alignment)
-            (cond (serves (current_segment l) size alignment) None
-            (growth_cause (current_segment l) (next_segment (current_segment l) size alignment))))
-          where
-            by_power : (p : Bool) → p ≡ false → (rest : Option Refusal) →
-                cond (not p) (Some refusal.BadLayout) rest ≡ Some refusal.BadLayout
-            by_power p e rest = ap (λ q. cond (not q) (Some refusal.BadLayout) rest) e
-
     module _ (linked : IsLinked t) (power : is_power_of_two alignment ≡ true) where
       abbrev layout : SizeAndAlignment
       layout = record { size = size; alignment = alignment }
@@ -256,3 +242,15 @@ module _ (t : TransportState) (name : ℕ) (below : AreBelow t.entries name) whe
                 (loan_refused_does first.0 (λ k q. again first.0 first.3 k q))
             go (inr none) = subst (λ x. LoanDoes t name size alignment (Err (loan_answer x)) t) (sym none)
                 (runs_out none)
+
+-- an alignment that is no power of two is the first cause
+pub bad_layout_cause : (l : Ledger) (size alignment : ℕ) → is_power_of_two alignment ≡ false →
+    loan_cause (current_segment l) size alignment ≡ Some refusal.BadLayout
+bad_layout_cause l size alignment bad = by_power (is_power_of_two alignment) bad
+    (cond (is_static l.settings.strategy) (static_cause (current_segment l) size alignment)
+    (cond (serves (current_segment l) size alignment) None
+    (growth_cause (current_segment l) (next_segment (current_segment l) size alignment))))
+  where
+    by_power : (p : Bool) → p ≡ false → (rest : Option Refusal) →
+        cond (not p) (Some refusal.BadLayout) rest ≡ Some refusal.BadLayout
+    by_power p e rest = ap (λ q. cond (not q) (Some refusal.BadLayout) rest) e

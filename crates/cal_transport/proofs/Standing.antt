@@ -16,7 +16,7 @@ use Rattle.cal_transport.specs.Settings.{create_cause}
 use Rattle.cal_transport.specs.ChunkEntry.{AreBelow}
 use Rattle.cal_transport.specs.Ledger.{Ledger, Chunk, first_ledger}
 use Rattle.cal_transport.specs.Cause.{cause}
-use Rattle.cal_transport.specs.Step.{IsStep, after_step, after_step_by}
+use Rattle.cal_transport.specs.Step.{IsStep, IsStepBy, after_step, after_step_by}
 use Rattle.cal_transport.specs.Reached.{IsNewName, IsReached}
 use Rattle.cal_transport.specs.Shown.{entry_of}
 use Rattle.cal_transport.specs.State as inner
@@ -34,6 +34,15 @@ use Rattle.cal_transport.proofs.Settled.{settled}
 pub stands_first : (t : TransportState) (settings : Settings) → create_cause settings ≡ None →
     Represents t (first_ledger settings) → StandsFor t (first_ledger settings)
 stands_first t settings made r = record { reached = reached_first settings made; shows = r.shows }
+
+-- a refusal leaves what a transport stands for
+pub refused_stands : (t : TransportState) (l : Ledger) (place : ℕ) (asked : Command) (why : Refusal) →
+    cause l asked ≡ Some why → StandsFor t l →
+    IsStep l place asked (Refused why) × StandsFor t (after_step l place asked (Refused why))
+refused_stands t l place asked why is stands =
+    subst
+    (λ o. IsStepBy o l place asked (Refused why) × StandsFor t (after_step_by o l place asked (Refused why)))
+    (sym is) (refl, stands)
 
 -- only a loan depends on its place
 abbrev pub IsNoLoan : Command → Type 0

@@ -20,21 +20,21 @@ use Rattle.cal_transport.specs.State.{TransportState, IsLinked, Represents, Does
 use Rattle.cal_transport.specs.StateOf.{state_of}
 use Rattle.cal_transport.specs.Step.{after_step}
 use Rattle.cal_transport.proofs.InsideDoes.{LoanDoes}
-use Rattle.cal_transport.proofs.Standing.{outside_loan}
+use Rattle.cal_transport.proofs.Standing.{refused_stands, outside_loan}
 use Rattle.cal_transport.proofs.LiveFew.{room_for_one}
 use Rattle.cal_transport.proofs.LoanCalls.{ErrorCall, refusing, is_handed, refused_same}
-use Rattle.cal_transport.proofs.LoanCode.{loan_bad_does, table_runs_out, error_comes, error_does}
+use Rattle.cal_transport.proofs.LoanCode.{bad_layout_cause, table_runs_out, error_comes, error_does}
 use Rattle.cal_transport.proofs.LoanDone.{handed_held, some_size, clears_within, owner_place, loaned_linked, loaned_does}
 use Rattle.cal_transport.proofs.LoanLent.{slot_of_entry}
 use Rattle.cal_transport.proofs.LoanRoom.{table_room, tables_left}
 use Rattle.cal_transport.proofs.transport.Transport.loan.Goals as goal
 
 pub returns-in-None-clause-step : goal.returns-in-None-clause-step
-returns-in-None-clause-step c =
-    outside_loan c.self.inside c.self.invariant c.args.self.now c.self.view_is c.args.chunk c.args.size c.args.alignment
-    (Err (answer.Refused refusal.BadLayout)) c.args.self.now c.requires.below
-    (loan_bad_does c.args.self.now c.args.chunk c.requires.below c.args.size c.args.alignment
+returns-in-None-clause-step c = λ l stands.
+    refused_stands c.args.self.now l c.args.chunk (command.Loan c.args.size c.args.alignment) refusal.BadLayout
+    (bad_layout_cause l c.args.size c.args.alignment
     (false_from_ne_true (is_power_of_two c.args.alignment) c.in-None.ensures.value))
+    stands
 
 -- no memory for the table of the next segment's owners
 pub returns-in-Err-clause-step : goal.returns-in-Err-clause-step
