@@ -9,7 +9,7 @@ use Rattle.cal_transport.specs.declared.reply.Reply.TheVariants.{Written, Sent, 
 use Rattle.cal_transport.specs.declared.reply.Slot.{Slot}
 use Rattle.cal_transport.specs.declared.reply.Refusal.{Refusal}
 use Rattle.cal_transport.specs.CommandsDo.{WriteDoes, SendDoes, ReceiveDoes, ReleaseDoes, ReclaimDoes, DiscardDoes}
-use Rattle.cal_transport.specs.Serve.{reply_to}
+use Rattle.cal_transport.specs.Serve.{reply_to, reply_at_end}
 use Rattle.cal_transport.specs.Standing.{Does, DoesAnywhere}
 use Rattle.cal_transport.specs.State.{TransportState}
 
@@ -24,15 +24,11 @@ abbrev pub IsMapped : {A : Type 0} → (A → Reply) → Result A Refusal → Re
 IsMapped given answer mapped = MatchResult answer (λ x. IsOkAnd mapped (λ r. r ≡ given x)) (λ why. mapped ≡ Err why)
 
 module _ (old new : TransportState) (place : ℕ) (asked : Command) where
-  pub write_served : (name at : ℕ) (bytes : List ℕ) (answer : Result (Unit {0}) Refusal)
-      (mapped : Result Reply Refusal) (reply : Reply) → asked ≡ command.Write name at bytes →
-      WriteDoes old name at bytes answer new → IsMapped (λ done. Written) answer mapped → reply ≡ reply_to mapped →
+  pub write_served : (name at : ℕ) (bytes : List ℕ) (answer : Result (Unit {0}) Refusal) (reply : Reply) →
+      asked ≡ command.Write name at bytes → WriteDoes old name at bytes answer new → reply ≡ reply_at_end answer Written →
       Does old place asked reply new
-  write_served name at bytes (Ok done) (Ok made) reply is step given e =
-      told_by old new place asked (command.Write name at bytes) reply Written is (e ∙ given) step
-  write_served name at bytes (Ok done) (Err why) reply is step given e = absurd given
-  write_served name at bytes (Err why) mapped reply is step given e =
-      told_by old new place asked (command.Write name at bytes) reply (Refused why) is (e ∙ ap reply_to given) step
+  write_served name at bytes (Ok done) reply is step e = told_by old new place asked (command.Write name at bytes) reply Written is e step
+  write_served name at bytes (Err why) reply is step e = told_by old new place asked (command.Write name at bytes) reply (Refused why) is e step
 
   pub send_served : (channel name : ℕ) (answer : Result (Option Slot) Refusal) (mapped : Result Reply Refusal)
       (reply : Reply) → asked ≡ command.Send channel name → SendDoes old channel name answer new →
@@ -52,14 +48,11 @@ module _ (old new : TransportState) (place : ℕ) (asked : Command) where
   receive_served channel (Err why) mapped reply is step given e =
       told_by old new place asked (command.Receive channel) reply (Refused why) is (e ∙ ap reply_to given) step
 
-  pub release_served : (channel name : ℕ) (answer : Result (Unit {0}) Refusal) (mapped : Result Reply Refusal)
-      (reply : Reply) → asked ≡ command.Release channel name → ReleaseDoes old channel name answer new →
-      IsMapped (λ done. Released) answer mapped → reply ≡ reply_to mapped → Does old place asked reply new
-  release_served channel name (Ok done) (Ok made) reply is step given e =
-      told_by old new place asked (command.Release channel name) reply Released is (e ∙ given) step
-  release_served channel name (Ok done) (Err why) reply is step given e = absurd given
-  release_served channel name (Err why) mapped reply is step given e =
-      told_by old new place asked (command.Release channel name) reply (Refused why) is (e ∙ ap reply_to given) step
+  pub release_served : (channel name : ℕ) (answer : Result (Unit {0}) Refusal) (reply : Reply) →
+      asked ≡ command.Release channel name → ReleaseDoes old channel name answer new → reply ≡ reply_at_end answer Released →
+      Does old place asked reply new
+  release_served channel name (Ok done) reply is step e = told_by old new place asked (command.Release channel name) reply Released is e step
+  release_served channel name (Err why) reply is step e = told_by old new place asked (command.Release channel name) reply (Refused why) is e step
 
   pub reclaim_served : (channel : ℕ) (answer : Result (Option Slot) Refusal) (mapped : Result Reply Refusal)
       (reply : Reply) → asked ≡ command.Reclaim channel → ReclaimDoes old channel answer new →
@@ -70,11 +63,8 @@ module _ (old new : TransportState) (place : ℕ) (asked : Command) where
   reclaim_served channel (Err why) mapped reply is step given e =
       told_by old new place asked (command.Reclaim channel) reply (Refused why) is (e ∙ ap reply_to given) step
 
-  pub discard_served : (name : ℕ) (answer : Result (Unit {0}) Refusal) (mapped : Result Reply Refusal)
-      (reply : Reply) → asked ≡ command.Discard name → DiscardDoes old name answer new →
-      IsMapped (λ done. Discarded) answer mapped → reply ≡ reply_to mapped → Does old place asked reply new
-  discard_served name (Ok done) (Ok made) reply is step given e =
-      told_by old new place asked (command.Discard name) reply Discarded is (e ∙ given) step
-  discard_served name (Ok done) (Err why) reply is step given e = absurd given
-  discard_served name (Err why) mapped reply is step given e =
-      told_by old new place asked (command.Discard name) reply (Refused why) is (e ∙ ap reply_to given) step
+  pub discard_served : (name : ℕ) (answer : Result (Unit {0}) Refusal) (reply : Reply) →
+      asked ≡ command.Discard name → DiscardDoes old name answer new → reply ≡ reply_at_end answer Discarded →
+      Does old place asked reply new
+  discard_served name (Ok done) reply is step e = told_by old new place asked (command.Discard name) reply Discarded is e step
+  discard_served name (Err why) reply is step e = told_by old new place asked (command.Discard name) reply (Refused why) is e step

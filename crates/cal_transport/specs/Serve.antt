@@ -8,3 +8,8 @@ use Rattle.cal_transport.specs.declared.reply.Refusal.{Refusal}
 abbrev pub reply_to : Result Reply Refusal → Reply
 reply_to (Ok reply) = reply
 reply_to (Err refusal) = Refused refusal
+
+-- where a command tells nothing but that it was done
+abbrev pub reply_at_end : Result (Unit {0}) Refusal → Reply → Reply
+reply_at_end (Ok done) reply = reply
+reply_at_end (Err refusal) reply = Refused refusal

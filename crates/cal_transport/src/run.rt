@@ -8,7 +8,7 @@ ghost use Rattle.cal_transport.specs.FillList.{AreFilled, AreServed, completed_a
 ghost use Rattle.cal_transport.specs.Room.{TakesRoomOfOne};
 ghost use Rattle.cal_transport.specs.Ledger.{Ledger};
 ghost use Rattle.cal_transport.specs.Run.{IsRun};
-ghost use Rattle.cal_transport.specs.Serve.{reply_to};
+ghost use Rattle.cal_transport.specs.Serve.{reply_to, reply_at_end};
 ghost use Rattle.cal_transport.specs.Served.{RunsOut, StandsAfter, IsNotRun, IsLeftByError};
 ghost use Rattle.cal_transport.specs.Standing.{StandsFor, Does, DoesAnywhere};
 
@@ -99,9 +99,9 @@ impl Transport {
     {
         match command {
             Command::Loan { size, alignment } => self.answer_loan(alloc, place, *size, *alignment),
-            Command::Write { chunk, at, bytes } => Ok(reply_to(
-                self.write(*chunk, *at, bytes.as_slice())
-                    .map(|()| Reply::Written),
+            Command::Write { chunk, at, bytes } => Ok(reply_at_end(
+                self.write(*chunk, *at, bytes.as_slice()),
+                Reply::Written,
             )),
             Command::Send { channel, chunk } => {
                 Ok(reply_to(self.send(*channel, *chunk).map(Reply::Sent)))
@@ -115,14 +115,15 @@ impl Transport {
                 at,
                 length,
             } => self.show(alloc, *channel, *chunk, *at, *length),
-            Command::Release { channel, chunk } => Ok(reply_to(
-                self.release(*channel, *chunk).map(|()| Reply::Released),
+            Command::Release { channel, chunk } => Ok(reply_at_end(
+                self.release(*channel, *chunk),
+                Reply::Released,
             )),
             Command::Reclaim { channel } => {
                 Ok(reply_to(self.reclaim(*channel).map(Reply::Reclaimed)))
             }
             Command::Discard { chunk } => {
-                Ok(reply_to(self.discard(*chunk).map(|()| Reply::Discarded)))
+                Ok(reply_at_end(self.discard(*chunk), Reply::Discarded))
             }
             Command::Count => Ok(Reply::Counted(self.count())),
         }
@@ -176,4 +177,14 @@ fn reply_to(answer: Result<Reply, Refusal>) -> Reply
     ensures value { result ≡ reply_to answer }
 {
     answer.unwrap_or_else(Reply::Refused)
+}
+
+/// The reply to a command that tells nothing but that it was done, or its refusal.
+fn reply_at_end(answer: Result<(), Refusal>, reply: Reply) -> Reply
+    ensures value { result ≡ reply_at_end answer reply }
+{
+    match answer {
+        Ok(()) => reply,
+        Err(refusal) => Reply::Refused(refusal),
+    }
 }

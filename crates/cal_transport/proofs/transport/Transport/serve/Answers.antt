@@ -8,15 +8,15 @@ use Rattle.cal_transport.proofs.transport.Transport.serve.Goals as goal
 pub returns-in-Write-clause-served : goal.returns-in-Write-clause-served
 returns-in-Write-clause-served c =
     write_served c.args.self.now c.write.new.self c.args.place c.args.command.now c.in-Write.chunk c.in-Write.at
-    c.in-Write.bytes c.write.result c.map.result c.reply_to.result c.in-Write.is
+    c.in-Write.bytes c.write.result c.reply_at_end.result c.in-Write.is
     (subst (λ bytes. WriteDoes c.args.self.now c.in-Write.chunk c.in-Write.at bytes c.write.result c.write.new.self) c.as_slice.ensures.value c.write.ensures.step)
-    c.map.ensures.cases c.reply_to.ensures.value
+    c.reply_at_end.ensures.value
 
 pub returns-in-Send-clause-served : goal.returns-in-Send-clause-served
 returns-in-Send-clause-served c =
     send_served c.args.self.now c.send.new.self c.args.place c.args.command.now c.in-Send.channel c.in-Send.chunk
-    c.send.result c.map-in-Send.result c.reply_to-in-Send.result c.in-Send.is c.send.ensures.step
-    c.map-in-Send.ensures.cases c.reply_to-in-Send.ensures.value
+    c.send.result c.map.result c.reply_to.result c.in-Send.is c.send.ensures.step
+    c.map.ensures.cases c.reply_to.ensures.value
 
 pub returns-in-Receive-clause-served : goal.returns-in-Receive-clause-served
 returns-in-Receive-clause-served c =
@@ -28,8 +28,8 @@ pub returns-in-Release-clause-served : goal.returns-in-Release-clause-served
 returns-in-Release-clause-served c =
     release_served c.args.self.now c.release.new.self c.args.place c.args.command.now c.in-Release.channel
     c.in-Release.chunk
-    c.release.result c.map-in-Release.result c.reply_to-in-Release.result c.in-Release.is c.release.ensures.step
-    c.map-in-Release.ensures.cases c.reply_to-in-Release.ensures.value
+    c.release.result c.reply_at_end-in-Release.result c.in-Release.is c.release.ensures.step
+    c.reply_at_end-in-Release.ensures.value
 
 pub returns-in-Reclaim-clause-served : goal.returns-in-Reclaim-clause-served
 returns-in-Reclaim-clause-served c =
@@ -40,8 +40,8 @@ returns-in-Reclaim-clause-served c =
 pub returns-in-Discard-clause-served : goal.returns-in-Discard-clause-served
 returns-in-Discard-clause-served c =
     discard_served c.args.self.now c.discard.new.self c.args.place c.args.command.now c.in-Discard.chunk
-    c.discard.result c.map-in-Discard.result c.reply_to-in-Discard.result c.in-Discard.is c.discard.ensures.step
-    c.map-in-Discard.ensures.cases c.reply_to-in-Discard.ensures.value
+    c.discard.result c.reply_at_end-in-Discard.result c.in-Discard.is c.discard.ensures.step
+    c.reply_at_end-in-Discard.ensures.value
 
 pub returns-in-Count-clause-served : goal.returns-in-Count-clause-served
 returns-in-Count-clause-served c =
