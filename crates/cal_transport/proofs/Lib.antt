@@ -100,6 +100,7 @@ pub mod LoanCauses
 pub mod Handed
 pub mod LoanLent
 pub mod LoanRoom
+pub mod NextName
 pub mod LoanGrowth
 pub mod LoanCode
 pub mod LoanDone

@@ -1,6 +1,6 @@
 //! How a chunk is loaned.
 
-ghost use Rattle.std.specs.Prelude.{◌≡◌, ◌<◌, ◌≤◌, ◌+◌, ◌/◌, true, false, Some, length, map, vec_items, vec_len, vec_capacity};
+ghost use Rattle.std.specs.Prelude.{◌≡◌, ◌<◌, ◌≤◌, ◌+◌, ◌/◌, true, false, Some, OnOk, length, map, vec_items, vec_len, vec_capacity};
 ghost use Rattle.cal_alloc.specs.Pool.{Pool};
 ghost use Rattle.cal_alloc.specs.PointerOffset.{segment_of, offset_of};
 ghost use Rattle.cal_shm.specs.Segment.{Segment};
@@ -52,6 +52,7 @@ impl Transport {
         requires room { 0 < self.old.spare }
         ensures step { LoanDoes self.old chunk size alignment result self.new }
         ensures room { TakesRoomOfOne self.old self.new }
+        ensures below { OnOk result (AreBelow self.new.entries (chunk + 1)) }
     {
         a_call_changes_one_segment::<PoolAllocator>();
         a_memory_stays_with_its_view::<PoolAllocator>();

@@ -1,6 +1,6 @@
 //! How a transport is opened.
 
-ghost use Rattle.std.specs.Prelude.{◌≡◌, ◌≤◌, Some, None, Err, IfOk, IfErr, OnOk};
+ghost use Rattle.std.specs.Prelude.{◌≡◌, ◌≤◌, [], Some, None, Err, IfOk, IfErr, OnOk};
 ghost use Rattle.cal_transport.specs.Ledger.{first_ledger};
 ghost use Rattle.cal_transport.specs.Opening.{IsNotOpened};
 ghost use Rattle.cal_transport.specs.Settings.{create_cause};
@@ -33,6 +33,7 @@ impl Transport {
         ensures error { IfErr result (IsNotOpened settings.now) }
         ensures made { OnOk result (create_cause settings.now ≡ None) }
         ensures first { IfOk result (λ transport. StandsFor transport (first_ledger settings.now)) }
+        ensures none { IfOk result (λ transport. transport.entries ≡ []) }
         ensures nothing { IfOk result (λ transport. transport.in_transit ≡ 0) }
         ensures room { IfOk result (λ transport. loans ≤ transport.spare) }
     {
@@ -46,6 +47,7 @@ impl Transport {
     fn make(alloc: Global, settings: &Settings, loans: usize) -> Result<Transport, AllocError>
         requires made { create_cause settings.now ≡ None }
         ensures first { IfOk result (λ transport. StandsFor transport (first_ledger settings.now)) }
+        ensures none { IfOk result (λ transport. transport.entries ≡ []) }
         ensures nothing { IfOk result (λ transport. transport.in_transit ≡ 0) }
         ensures room { IfOk result (λ transport. loans ≤ transport.spare) }
     {

@@ -27,6 +27,7 @@ use Rattle.cal_transport.proofs.LoanCode.{bad_layout_cause, table_runs_out, erro
 use Rattle.cal_transport.proofs.LoanDone.{handed_held, some_size, clears_within, owner_place, loaned_linked, loaned_does}
 use Rattle.cal_transport.proofs.LoanLent.{slot_of_entry}
 use Rattle.cal_transport.proofs.LoanRoom.{table_room, tables_left}
+use Rattle.cal_transport.proofs.NextName.{below_next}
 use Rattle.cal_transport.proofs.transport.Transport.loan.Goals as goal
 
 pub returns-in-None-clause-step : goal.returns-in-None-clause-step
@@ -480,3 +481,10 @@ returns-clause-room c =
     })) c.self.view_is
     (let len = c.push_reserved.ensures.len in let capacity = c.push_reserved.ensures.capacity in
     record { spare = omega arith; in_transit = omega arith })
+
+pub returns-clause-below : goal.returns-clause-below
+returns-clause-below c =
+    subst (λ entries. AreBelow entries (c.args.chunk + 1)) (sym c.push_reserved.ensures.items)
+    (below_next c.self.inside.entries.items c.new_entry-entry.result c.args.chunk
+    (subst (λ (s : TransportState). AreBelow s.entries c.args.chunk) (sym c.self.view_is) c.requires.below)
+    (ap (λ (e : ChunkEntry). e.name) c.new_entry-entry.ensures.entry))

@@ -96,6 +96,9 @@ returns-clause-first c =
     stands_first t c.args.settings.now c.requires.made
     (represents_first t new c.args.settings.now c.clamped-settings.ensures.value c.requires.made)
 
+pub returns-clause-none : goal.returns-clause-none
+returns-clause-none c = c.in_ok-entries.ensures.items
+
 pub returns-clause-nothing : goal.returns-clause-nothing
 returns-clause-nothing c = refl
 
