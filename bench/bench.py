@@ -1,12 +1,13 @@
 #!/usr/bin/env python3
-"""Measures how fast the built program runs long scripts over a small pool.
+"""Measures how fast the built program runs long scripts over a small memory.
 
     python3 bench/bench.py [PROGRAM] [--bytes N] [--runs N]
 
-PROGRAM is crates/cal_program/out/cal_program where it isn't given. Two scripts of about 16 MB are run: in the first, one
-chunk after another goes the whole way; in the second, several chunks are under way at once, in an order that a fixed seed
-chooses. No command is refused. For each script the fastest run counts; its time has the start of the program, the reading
-of the script and the writing of the replies in it.
+PROGRAM is crates/cal_program/out/cal_program where it isn't given. Scripts of about 16 MB are run: in the first, one chunk
+after another goes the whole way; in the second, several chunks are under way at once, in an order that a fixed seed
+chooses; in the third each chunk goes over two channels; in the fourth each send on a full channel takes the oldest chunk
+back; in the fifth the sizes vary, and memory grows to the largest. No command is refused. For each script the fastest run
+counts; its time has the start of the program, the reading of the script and the writing of the replies in it.
 """
 import argparse
 import collections
@@ -25,6 +26,9 @@ MOST_BYTES = 16_777_216
 
 SIZE, BUCKETS, BUFFER, BORROW = 64, 8, 4, 4
 SETTINGS = f"transport {SIZE} 8 {BUCKETS} static {BUFFER} {BORROW} off {BUCKETS} 1 1"
+TWO_CHANNELS = f"transport {SIZE} 8 {BUCKETS} static {BUFFER} {BORROW} off {BUCKETS} 1 2"
+OVERFLOWING = f"transport {SIZE} 8 {BUCKETS} static {BUFFER} {BORROW} on {BUCKETS} 1 1"
+GROWING = f"transport 16 8 {BUCKETS} best {BUFFER} {BORROW} off {2 * BUCKETS} 255 1"
 
 
 def in_turn():
@@ -36,6 +40,49 @@ def in_turn():
         yield f"send 0 {place}"
         yield "receive 0"
         yield f"read 0 {place} 0 4"
+        yield f"release 0 {place}"
+        yield "reclaim 0"
+        yield f"discard {place}"
+        place += 8
+
+
+def on_two_channels():
+    """The commands of one chunk after another, each of which goes over both channels."""
+    place = 1
+    while True:
+        yield f"loan {SIZE} 8"
+        yield f"write {place} 0 7b00ff01"
+        yield f"send 0 {place}"
+        yield f"send 1 {place}"
+        yield f"discard {place}"
+        for channel in (0, 1):
+            yield f"receive {channel}"
+            yield f"read {channel} {place} 0 4"
+            yield f"release {channel} {place}"
+            yield f"reclaim {channel}"
+        place += 13
+
+
+def overflowing():
+    """Chunks that are sent and discarded: each send but the first ones takes the oldest back."""
+    place = 1
+    while True:
+        yield f"loan {SIZE} 8"
+        yield f"send 0 {place}"
+        yield f"discard {place}"
+        place += 3
+
+
+def growing(seed):
+    """The commands of one chunk after another, of sizes that a seed chooses."""
+    sizes = random.Random(seed)
+    place = 1
+    while True:
+        yield f"loan {sizes.randrange(1, 4097)} 1"
+        yield f"write {place} 0 7b"
+        yield f"send 0 {place}"
+        yield "receive 0"
+        yield f"read 0 {place} 0 1"
         yield f"release 0 {place}"
         yield "reclaim 0"
         yield f"discard {place}"
@@ -117,10 +164,10 @@ class Mixed:
             yield self.command(self.random.choice(self.possible()))
 
 
-def script_of(commands, size):
+def script_of(settings, commands, size):
     """A script of at most so many bytes, and the number of its commands."""
-    lines = [SETTINGS]
-    length = len(SETTINGS) + 1
+    lines = [settings]
+    length = len(settings) + 1
     for line in commands:
         length += len(line) + 1
         if length > size:
@@ -151,8 +198,8 @@ def check_replies(path, commands):
         sys.exit(f"bench: {commands} commands have {len(answers)} replies")
 
 
-def measure(name, commands, arguments, folder):
-    script, count = script_of(commands, arguments.bytes)
+def measure(name, settings, commands, arguments, folder):
+    script, count = script_of(settings, commands, arguments.bytes)
     script_path = os.path.join(folder, "script")
     replies_path = os.path.join(folder, "replies")
     with open(script_path, "wb") as source:
@@ -181,8 +228,11 @@ def main():
     if not os.access(arguments.program, os.X_OK):
         sys.exit(f"bench: {arguments.program} isn't there; the README says how it is built")
     with tempfile.TemporaryDirectory() as folder:
-        measure("one chunk after another", in_turn(), arguments, folder)
-        measure("several chunks at once", Mixed(1).commands(), arguments, folder)
+        measure("one chunk after another", SETTINGS, in_turn(), arguments, folder)
+        measure("several chunks at once", SETTINGS, Mixed(1).commands(), arguments, folder)
+        measure("over two channels", TWO_CHANNELS, on_two_channels(), arguments, folder)
+        measure("with overflow", OVERFLOWING, overflowing(), arguments, folder)
+        measure("of sizes that vary", GROWING, growing(1), arguments, folder)
 
 
 if __name__ == "__main__":

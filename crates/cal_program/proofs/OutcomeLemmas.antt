@@ -1,25 +1,18 @@
 -- From what a run of the program owes to when each status comes.
 use Rattle.std.proofs.Common.{◌≡◌, ℕ, suc, ◌+◌, ◌<◌, ◌≤◌, ◌⊎◌, inl, inr, Bool, true, false, ◌||◌, List, [], ◌∷◌, ◌++◌, length, Option, Some, None, Result, Ok, refl, sym, ap, subst, ◌∙◌, arith}
-use Rattle.std.specs.Prelude.{IsTrue, IfSome, MatchBool}
-use Rattle.std.specs.List.{list_any}
+use Rattle.std.specs.Prelude.{IsTrue, IfSome}
 use Rattle.std.specs.Io.KnownBytes.{Consumes, IsAtEnd}
 use Rattle.std.proofs.lemmas.Bool.{lt-ltb, le-ltb}
 use Rattle.std.proofs.lemmas.List.{append-nil, length-append}
-use Rattle.cal_transport.specs.declared.command.Command.{Command}
 use Rattle.cal_transport.specs.declared.reply.Reply.{Reply}
-use Rattle.cal_transport.specs.Settings.{create_cause}
-use Rattle.cal_transport.specs.Ledger.{Ledger, first_ledger}
-use Rattle.cal_transport.specs.Step.{after_step}
-use Rattle.cal_transport.specs.Built.{is_built}
-use Rattle.cal_transport.specs.declared.command.Command.TheVariants as command
-use Rattle.cal_transport.specs.Run.{StopsAt, StopsUnbuilt, IsCount, HasNoCount}
+use Rattle.cal_transport.specs.State.{TransportState}
 use Rattle.cal_program.specs.declared.status.Status.{Status}
-use Rattle.cal_program.specs.declared.status.Status.TheVariants.{Done, BadScript, NotCreated, ReadFault, WriteFault, NoMemory, Usage, TooLong, NotBuilt}
+use Rattle.cal_program.specs.declared.status.Status.TheVariants.{Done, BadScript, NotCreated, ReadFault, WriteFault, NoMemory, Usage, TooLong}
 use Rattle.cal_program.specs.Script.{ParsedScript, script_of}
 use Rattle.cal_program.specs.ReplyText.{reply_lines}
 use Rattle.cal_program.specs.Streams.{SourceState, SinkState, Rose, PutsAll}
 use Rattle.cal_program.specs.ReadAll.{script_limit, ReadsAll}
-use Rattle.cal_program.specs.Outcome.{asks_for_run, status_text, script_status, due_status, IsOutcomeOfScript, IsOutcomeOfBytes, IsDue, IsWritten, EndsDue, is_unbuilt, IsDueOrExcused, AreRepliesTo}
+use Rattle.cal_program.specs.Outcome.{asks_for_run, status_text, script_status, due_status, IsOutcomeOfScript, IsOutcomeOfBytes, IsDue, IsWritten, EndsDue, IsDueOrExcused, AreRepliesTo}
 
 -- ---- the bytes that were read are those that the source told
 
@@ -56,85 +49,40 @@ due_status-usage : (words : List (List ℕ)) (bytes : List ℕ) → asks_for_run
     due_status words bytes ≡ Usage
 due_status-usage words bytes none = rw none refl
 
--- ---- which scripts are served
-
-any-first : (command : Command) (commands : List Command) → is_unbuilt command ≡ true →
-    list_any is_unbuilt (command ∷ commands) ≡ true
-any-first command commands e = rw e refl
-
-any-later : (command : Command) (commands : List Command) → list_any is_unbuilt commands ≡ true →
-    list_any is_unbuilt (command ∷ commands) ≡ true
-any-later command commands e =
-    rw e (elim (is_unbuilt command) as (λ b. (b || true) ≡ true) [ true ↦ refl | false ↦ refl ])
-
-stops-unbuilt : (l : Ledger) (place : ℕ) (commands : List Command) (replies : List Reply) →
-    StopsAt IsCount l place commands replies → list_any is_unbuilt commands ≡ true
-stops-unbuilt l place [] replies h = absurd h
-stops-unbuilt l place (asked ∷ commands) [] h = any-first asked commands (ap is_unbuilt h)
-stops-unbuilt l place (asked ∷ commands) (reply ∷ replies) h =
-    any-later asked commands (stops-unbuilt (after_step l place asked reply) (place + 1) commands replies h.1)
-
-no-count : (commands : List Command) → HasNoCount commands → list_any is_unbuilt commands ≡ false
-no-count [] h = refl
-no-count (command.Loan size alignment ∷ commands) h = no-count commands (λ place. h (suc place))
-no-count (command.Write chunk at bytes ∷ commands) h = no-count commands (λ place. h (suc place))
-no-count (command.Send channel chunk ∷ commands) h = no-count commands (λ place. h (suc place))
-no-count (command.Receive channel ∷ commands) h = no-count commands (λ place. h (suc place))
-no-count (command.Read channel chunk at len ∷ commands) h = no-count commands (λ place. h (suc place))
-no-count (command.Release channel chunk ∷ commands) h = no-count commands (λ place. h (suc place))
-no-count (command.Reclaim channel ∷ commands) h = no-count commands (λ place. h (suc place))
-no-count (command.Discard chunk ∷ commands) h = no-count commands (λ place. h (suc place))
-no-count (command.Count ∷ commands) h = absurd (h 0 refl)
-
-done-status : (script : ParsedScript) → create_cause script.settings ≡ None → is_built script.settings ≡ true →
-    HasNoCount script.commands → Done ≡ script_status (Ok script)
-done-status script created built h = rw (created, built, no-count script.commands h) refl
-
-stops-status : (script : ParsedScript) (replies : List Reply) (built : Bool) → create_cause script.settings ≡ None →
-    is_built script.settings ≡ built → StopsUnbuilt script.settings script.commands replies →
-    NotBuilt ≡ script_status (Ok script)
-stops-status script replies false created built h = rw (created, built) refl
-stops-status script replies true created built h =
-    let stops = subst (λ (b : Bool).
-    MatchBool b (StopsAt IsCount (first_ledger script.settings) 1 script.commands replies) (replies ≡ [])) built
-    h in
-    rw (created, built, stops-unbuilt (first_ledger script.settings) 1 script.commands replies stops) refl
-
 -- ---- what was judged of bytes that were read
 
 -- the status is that of the script, or it comes for want of memory
 abbrev IsFair : Status → Result ParsedScript ℕ → Type 0
 IsFair status found = (status ≡ script_status found) ⊎ (status ≡ NoMemory)
 
-answer-fair : (script : ParsedScript) (status : Status) (replies : List Reply) →
-    IsOutcomeOfScript script status replies → IsFair status (Ok script)
-answer-fair script Done replies h = inl (done-status script h.0 h.1 h.2)
-answer-fair script (BadScript number) replies h = absurd h
-answer-fair script (NotCreated cause) replies h = inl (rw h.0 refl)
-answer-fair script ReadFault replies h = absurd h
-answer-fair script WriteFault replies h = absurd h
-answer-fair script NoMemory replies h = inr refl
-answer-fair script Usage replies h = absurd h
-answer-fair script TooLong replies h = absurd h
-answer-fair script NotBuilt replies h = inl (stops-status script h.1.0 (is_built script.settings) h.0 refl h.1.1)
+answer-fair : (script : ParsedScript) (status : Status) (replies : List Reply) (end : Option TransportState) →
+    IsOutcomeOfScript script status replies end → IsFair status (Ok script)
+answer-fair script Done replies end h = inl (rw h.0 refl)
+answer-fair script (BadScript number) replies end h = absurd h
+answer-fair script (NotCreated cause) replies end h = inl (rw h.0 refl)
+answer-fair script ReadFault replies end h = absurd h
+answer-fair script WriteFault replies end h = absurd h
+answer-fair script NoMemory replies end h = inr refl
+answer-fair script Usage replies end h = absurd h
+answer-fair script TooLong replies end h = absurd h
 
-script-fair : (bytes : List ℕ) (status : Status) (replies : List Reply) →
-    ((script : ParsedScript) × (script_of bytes ≡ Ok script) × IsOutcomeOfScript script status replies) →
+script-fair : (bytes : List ℕ) (status : Status) (replies : List Reply) (end : Option TransportState) →
+    ((script : ParsedScript) × (script_of bytes ≡ Ok script) × IsOutcomeOfScript script status replies end) →
     IsFair status (script_of bytes)
-script-fair bytes status replies h = subst
-    (λ (found : Result ParsedScript ℕ). IsFair status found) (sym h.1) (answer-fair h.0 status replies h.2)
+script-fair bytes status replies end h = subst
+    (λ (found : Result ParsedScript ℕ). IsFair status found) (sym h.1) (answer-fair h.0 status replies end h.2)
 
-verdict-fair : (bytes : List ℕ) (status : Status) (replies : List Reply) → IsOutcomeOfBytes bytes status replies →
+verdict-fair : (bytes : List ℕ) (status : Status) (replies : List Reply) (end : Option TransportState) →
+    IsOutcomeOfBytes bytes status replies end →
     IsFair status (script_of bytes)
-verdict-fair bytes (BadScript number) replies h = inl (rw h.0 refl)
-verdict-fair bytes NoMemory replies h = inr refl
-verdict-fair bytes Done replies h = script-fair bytes Done replies h
-verdict-fair bytes (NotCreated cause) replies h = script-fair bytes (NotCreated cause) replies h
-verdict-fair bytes ReadFault replies h = script-fair bytes ReadFault replies h
-verdict-fair bytes WriteFault replies h = script-fair bytes WriteFault replies h
-verdict-fair bytes Usage replies h = script-fair bytes Usage replies h
-verdict-fair bytes TooLong replies h = script-fair bytes TooLong replies h
-verdict-fair bytes NotBuilt replies h = script-fair bytes NotBuilt replies h
+verdict-fair bytes (BadScript number) replies end h = inl (rw h.0 refl)
+verdict-fair bytes NoMemory replies end h = inr refl
+verdict-fair bytes Done replies end h = script-fair bytes Done replies end h
+verdict-fair bytes (NotCreated cause) replies end h = script-fair bytes (NotCreated cause) replies end h
+verdict-fair bytes ReadFault replies end h = script-fair bytes ReadFault replies end h
+verdict-fair bytes WriteFault replies end h = script-fair bytes WriteFault replies end h
+verdict-fair bytes Usage replies end h = script-fair bytes Usage replies end h
+verdict-fair bytes TooLong replies end h = script-fair bytes TooLong replies end h
 
 -- ---- the status that is due
 
@@ -149,35 +97,35 @@ excused-right words bytes before now sink_before sink_now status asks due fair =
 
 -- a status that comes after all bytes were read
 read-right : (words : List (List ℕ)) (before now : SourceState) (sink_before sink_now : SinkState) (xs : List ℕ)
-    (status : Status) (replies : List Reply) → before.left ≡ Some xs → IsTrue (asks_for_run words) →
-    ((bytes : List ℕ) × ReadsAll before now bytes × IsOutcomeOfBytes bytes status replies) →
+    (status : Status) (replies : List Reply) (end : Option TransportState) → before.left ≡ Some xs →
+    IsTrue (asks_for_run words) →
+    ((bytes : List ℕ) × ReadsAll before now bytes × IsOutcomeOfBytes bytes status replies end) →
     IsDueOrExcused words xs before now sink_before sink_now status
-read-right words before now sink_before sink_now xs status replies tells asks h =
+read-right words before now sink_before sink_now xs status replies end tells asks h =
     let same : xs ≡ h.0 = whole-told before.left now.left xs h.0 tells h.1.taken.front h.1.ended in
     let within : length xs ≤ script_limit = omega (arith, ap length same, h.1.within) in
     excused-right words xs before now sink_before sink_now status asks (due_status-run words xs asks within)
-    (subst (λ (bytes : List ℕ). IsFair status (script_of bytes)) (sym same) (verdict-fair h.0 status replies h.2))
+    (subst (λ (bytes : List ℕ). IsFair status (script_of bytes)) (sym same) (verdict-fair h.0 status replies end h.2))
 
 due-right : (words : List (List ℕ)) (before now : SourceState) (sink_before sink_now : SinkState) (xs : List ℕ)
-    (status : Status) (replies : List Reply) → before.left ≡ Some xs → IsDue words before now status replies →
+    (status : Status) (replies : List Reply) (end : Option TransportState) → before.left ≡ Some xs →
+    IsDue words before now status replies end →
     IsDueOrExcused words xs before now sink_before sink_now status
-due-right words before now sink_before sink_now xs Usage replies tells h = inl (sym (due_status-usage words xs h.0))
-due-right words before now sink_before sink_now xs ReadFault replies tells h = inr (h.0, h.1.fault)
-due-right words before now sink_before sink_now xs TooLong replies tells h =
+due-right words before now sink_before sink_now xs Usage replies end tells h = inl (sym (due_status-usage words xs h.0))
+due-right words before now sink_before sink_now xs ReadFault replies end tells h = inr (h.0, h.1.fault)
+due-right words before now sink_before sink_now xs TooLong replies end tells h =
     inl (sym (due_status-long words xs h.0
     (omega (arith, h.1.past, front-told before.left now.left xs h.1.bytes tells h.1.taken.front))))
-due-right words before now sink_before sink_now xs NoMemory [] tells h = inr h.0
-due-right words before now sink_before sink_now xs NoMemory (reply ∷ replies) tells h = inr h.0
-due-right words before now sink_before sink_now xs Done replies tells h =
-    read-right words before now sink_before sink_now xs Done replies tells h.0 h.1
-due-right words before now sink_before sink_now xs (BadScript number) replies tells h =
-    read-right words before now sink_before sink_now xs (BadScript number) replies tells h.0 h.1
-due-right words before now sink_before sink_now xs (NotCreated cause) replies tells h =
-    read-right words before now sink_before sink_now xs (NotCreated cause) replies tells h.0 h.1
-due-right words before now sink_before sink_now xs WriteFault replies tells h =
-    read-right words before now sink_before sink_now xs WriteFault replies tells h.0 h.1
-due-right words before now sink_before sink_now xs NotBuilt replies tells h =
-    read-right words before now sink_before sink_now xs NotBuilt replies tells h.0 h.1
+due-right words before now sink_before sink_now xs NoMemory [] end tells h = inr h.0
+due-right words before now sink_before sink_now xs NoMemory (reply ∷ replies) end tells h = inr h.0
+due-right words before now sink_before sink_now xs Done replies end tells h =
+    read-right words before now sink_before sink_now xs Done replies end tells h.0 h.1
+due-right words before now sink_before sink_now xs (BadScript number) replies end tells h =
+    read-right words before now sink_before sink_now xs (BadScript number) replies end tells h.0 h.1
+due-right words before now sink_before sink_now xs (NotCreated cause) replies end tells h =
+    read-right words before now sink_before sink_now xs (NotCreated cause) replies end tells h.0 h.1
+due-right words before now sink_before sink_now xs WriteFault replies end tells h =
+    read-right words before now sink_before sink_now xs WriteFault replies end tells h.0 h.1
 
 -- ---- the status that the program ends with
 
@@ -191,17 +139,16 @@ written-status before now text due ReadFault h = inr (h.1, h.0)
 written-status before now text due NoMemory h = inr (h.1, h.0)
 written-status before now text due Usage h = inr (h.1, h.0)
 written-status before now text due TooLong h = inr (h.1, h.0)
-written-status before now text due NotBuilt h = inr (h.1, h.0)
 
 right-told : (words : List (List ℕ)) (before now : SourceState) (sink_before sink_now : SinkState) (status : Status)
-    (replies : List Reply) (xs : List ℕ) → before.left ≡ Some xs →
-    EndsDue words before now sink_before sink_now status replies →
+    (replies : List Reply) (end : Option TransportState) (xs : List ℕ) → before.left ≡ Some xs →
+    EndsDue words before now sink_before sink_now status replies end →
     IsDueOrExcused words xs before now sink_before sink_now status
-right-told words before now sink_before sink_now status replies xs tells h =
+right-told words before now sink_before sink_now status replies end xs tells h =
     elim (written-status sink_before sink_now (status_text h.0 replies) h.0 status h.2) [
       | inl p ↦ subst (λ (s : Status). IsDueOrExcused words xs before now sink_before sink_now s) (sym p.0) (inr p.1)
       | inr p ↦ subst (λ (s : Status). IsDueOrExcused words xs before now sink_before sink_now s) (sym p.0)
-          (due-right words before now sink_before sink_now xs h.0 replies tells h.1)
+          (due-right words before now sink_before sink_now xs h.0 replies end tells h.1)
     ]
 
 -- a fact of the bytes that are told, if they are
@@ -210,43 +157,47 @@ if-told None P f = tt
 if-told (Some xs) P f = f xs refl
 
 pub EndsDue-right : (words : List (List ℕ)) (before now : SourceState) (sink_before sink_now : SinkState)
-    (status : Status) (replies : List Reply) → EndsDue words before now sink_before sink_now status replies →
+    (status : Status) (replies : List Reply) (end : Option TransportState) →
+    EndsDue words before now sink_before sink_now status replies end →
     IfSome before.left (λ bytes. IsDueOrExcused words bytes before now sink_before sink_now status)
-EndsDue-right words before now sink_before sink_now status replies h =
+EndsDue-right words before now sink_before sink_now status replies end h =
     if-told before.left (λ bytes. IsDueOrExcused words bytes before now sink_before sink_now status)
-    (λ xs tells. right-told words before now sink_before sink_now status replies xs tells h)
+    (λ xs tells. right-told words before now sink_before sink_now status replies end xs tells h)
 
 -- ---- a run that is done
 
 -- some status was due, and it is that with which the program ends
 done-due : (words : List (List ℕ)) (before now : SourceState) (sink_before sink_now : SinkState) (status : Status)
-    (replies : List Reply) → status ≡ Done → EndsDue words before now sink_before sink_now status replies →
-    IsDue words before now Done replies × PutsAll sink_before sink_now (reply_lines replies)
-done-due words before now sink_before sink_now status replies done h =
+    (replies : List Reply) (end : Option TransportState) → status ≡ Done →
+    EndsDue words before now sink_before sink_now status replies end →
+    IsDue words before now Done replies end × PutsAll sink_before sink_now (reply_lines replies)
+done-due words before now sink_before sink_now status replies end done h =
     elim (written-status sink_before sink_now (status_text h.0 replies) h.0 status h.2) [
       | inl p ↦ absurd (let e : WriteFault ≡ Done = sym p.0 ∙ done in cc)
       | inr p ↦ let same : h.0 ≡ Done = sym p.0 ∙ done in (
-        subst (λ (s : Status). IsDue words before now s replies) same h.1,
+        subst (λ (s : Status). IsDue words before now s replies end) same h.1,
         subst (λ (s : Status). PutsAll sink_before sink_now (status_text s replies)) same p.1,
       )
     ]
 
 pub EndsDue-written : (words : List (List ℕ)) (before now : SourceState) (sink_before sink_now : SinkState)
-    (status : Status) (replies : List Reply) → EndsDue words before now sink_before sink_now status replies →
+    (status : Status) (replies : List Reply) (end : Option TransportState) →
+    EndsDue words before now sink_before sink_now status replies end →
     status ≡ Done → PutsAll sink_before sink_now (reply_lines replies)
-EndsDue-written words before now sink_before sink_now status replies h done =
-    (done-due words before now sink_before sink_now status replies done h).1
+EndsDue-written words before now sink_before sink_now status replies end h done =
+    (done-due words before now sink_before sink_now status replies end done h).1
 
-done-told : (words : List (List ℕ)) (before now : SourceState) (replies : List Reply) (xs : List ℕ) →
-    before.left ≡ Some xs → IsDue words before now Done replies → AreRepliesTo xs replies
-done-told words before now replies xs tells h =
+done-told : (words : List (List ℕ)) (before now : SourceState) (replies : List Reply) (end : Option TransportState)
+    (xs : List ℕ) → before.left ≡ Some xs → IsDue words before now Done replies end → AreRepliesTo xs replies end
+done-told words before now replies end xs tells h =
     let same : xs ≡ h.1.0 = whole-told before.left now.left xs h.1.0 tells h.1.1.taken.front h.1.1.ended in
-    subst (λ (bytes : List ℕ). AreRepliesTo bytes replies) (sym same) (h.1.2.0, h.1.2.1, h.1.2.2.3)
+    subst (λ (bytes : List ℕ). AreRepliesTo bytes replies end) (sym same) (h.1.2.0, h.1.2.1, h.1.2.2.1, h.1.2.2.2)
 
 pub EndsDue-done : (words : List (List ℕ)) (before now : SourceState) (sink_before sink_now : SinkState)
-    (status : Status) (replies : List Reply) → EndsDue words before now sink_before sink_now status replies →
-    status ≡ Done → IfSome before.left (λ bytes. AreRepliesTo bytes replies)
-EndsDue-done words before now sink_before sink_now status replies h done =
-    if-told before.left (λ bytes. AreRepliesTo bytes replies)
-    (λ xs tells. done-told words before now replies xs tells
-    (done-due words before now sink_before sink_now status replies done h).0)
+    (status : Status) (replies : List Reply) (end : Option TransportState) →
+    EndsDue words before now sink_before sink_now status replies end →
+    status ≡ Done → IfSome before.left (λ bytes. AreRepliesTo bytes replies end)
+EndsDue-done words before now sink_before sink_now status replies end h done =
+    if-told before.left (λ bytes. AreRepliesTo bytes replies end)
+    (λ xs tells. done-told words before now replies end xs tells
+    (done-due words before now sink_before sink_now status replies end done h).0)

@@ -35,5 +35,5 @@ and at the end, for each chunk in transit: transit CHANNEL SLOT
 
 Exit statuses: 0 done, 1 line N of the script is bad, 2 no transport can be made
 (create CAUSE), 3 reading failed, 4 writing failed, 5 out of memory, 6 usage,
-7 the script has more than 16777216 bytes, 8 not built yet
+7 the script has more than 16777216 bytes
 ";

@@ -56,7 +56,6 @@ fn print_status<S: Sink>(
             b"usage: run, make NUMBER ROUNDS, relay BUFFER COUNT\n",
         ),
         Status::TooLong => buffer.text(sink, b"too long\n"),
-        Status::NotBuilt => buffer.text(sink, b"not built\n"),
     }
 }
 

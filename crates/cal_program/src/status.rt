@@ -3,7 +3,7 @@
 ghost use Rattle.std.specs.Prelude.{◌≡◌};
 ghost use Rattle.cal_program.specs.Outcome.{status_code};
 
-use cal_transport::{CreateCause, Replies, Reply};
+use cal_transport::{CreateCause, Replies, Reply, Transport};
 
 /// How a run of the program ended.
 #[derive(Clone, Copy, Debug, PartialEq, Eq)]
@@ -24,8 +24,6 @@ pub enum Status {
     Usage,
     /// The source has more bytes than a script may have.
     TooLong,
-    /// The script's settings, or one of its commands, aren't served yet.
-    NotBuilt,
 }
 
 impl Status {
@@ -42,7 +40,6 @@ impl Status {
             Status::NoMemory => 5,
             Status::Usage => 6,
             Status::TooLong => 7,
-            Status::NotBuilt => 8,
         }
     }
 }
@@ -55,4 +52,7 @@ pub struct Outcome {
     /// The replies of the whole run, where that is done or its replies were due to be written; the replies before
     /// memory ran out; else none.
     pub replies: Replies<Reply>,
+    /// The transport that gave the replies, where the whole run was answered, or some of it before memory ran out; else
+    /// none.
+    pub end: Option<Transport>,
 }

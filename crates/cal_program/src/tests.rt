@@ -7,8 +7,10 @@ ghost use Rattle.cal_program.specs.Streams.{Takes, TakesNothing};
 mod clean;
 mod many;
 mod memory;
+mod scripts;
 mod streams;
 mod worked_examples;
+mod worked_growth;
 
 use crate::read::SCRIPT_LIMIT;
 use crate::run_program::run_program;
@@ -176,11 +178,9 @@ fn settings_that_cannot_be(rt: HostRuntime) -> Result<(), Fail> {
 }
 
 #[test]
-fn what_is_not_built(rt: HostRuntime) -> Result<(), Fail> {
-    let growing = b"transport 8 8 1 best 1 1 off 1 1 1";
-    assert_run(&rt, growing, Status::NotBuilt, b"not built\n")?;
+fn a_last_line_without_its_end(rt: HostRuntime) -> Result<(), Fail> {
     let counting = b"transport 8 8 1 static 1 1 off 1 1 1\ncount";
-    assert_run(&rt, counting, Status::NotBuilt, b"not built\n")?;
+    assert_run(&rt, counting, Status::Done, b"counted 1 0 0 8 1\n")?;
     Ok(())
 }
 
@@ -205,6 +205,7 @@ fn faults(rt: HostRuntime) -> Result<(), Fail> {
     let mut sink = MemorySink::new(rt.alloc(), &[]);
     let outcome = run_program(rt.alloc(), words.as_slice(), &mut source, &mut sink);
     assert_eq!(rt; outcome.status, Status::ReadFault);
+    assert!(rt; outcome.end.is_none());
     assert_eq!(rt; sink.as_slice(), b"".as_slice());
 
     let mut source = MemorySource::new(ONE_CHUNK, &[]);
@@ -212,6 +213,8 @@ fn faults(rt: HostRuntime) -> Result<(), Fail> {
     let outcome = run_program(rt.alloc(), words.as_slice(), &mut source, &mut sink);
     assert_eq!(rt; outcome.status, Status::WriteFault);
     assert_eq!(rt; outcome.replies.len(), 6);
+    let transport = outcome.end.ok_or("the run leaves its transport")?;
+    assert_eq!(rt; transport.in_transit(), 1);
     assert_eq!(rt; sink.as_slice(), b"".as_slice());
     Ok(())
 }

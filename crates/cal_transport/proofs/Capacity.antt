@@ -17,8 +17,7 @@ use Rattle.cal_transport.specs.Ledger.{Ledger, ChannelHistory, queued_names, com
 use Rattle.cal_transport.specs.Cause.{cause, is_channel_outside}
 use Rattle.cal_transport.specs.Step.{IsStep, IsStepBy, after_step, history_after_send, history_after_receive, history_after_release, history_after_reclaim}
 use Rattle.cal_transport.specs.Run.{AreSteps, AreStepsAndTransit, IsRun}
-use Rattle.cal_transport.specs.Parts.{IsOrderly}
-use Rattle.cal_transport.specs.Soundness.{IsSoundHistory, IsSoundLedger}
+use Rattle.cal_transport.specs.Soundness.{IsSoundHistory, IsSoundLedger, IsOrderly}
 use Rattle.cal_transport.specs.Capacity.{IsAnswered, IsAcceptedSend, IsEmptyReclaim, IsReclaimedBetween, HasNoSendBetween, KeepsUp, HasCapacity}
 use Rattle.cal_transport.proofs.Names.{queued-sent_on, queued-received_from, borrow_count-received_from, completed-released_on, borrow_count-released_on, fewer_released, completed-reclaimed_from}
 use Rattle.cal_transport.proofs.Histories.{history_after_overflow, overflow_then_send, queued-overflowed, received-overflowed, orderly_overflowed}

@@ -18,7 +18,7 @@ use Rattle.cal_transport.specs.LoanCause.{serves, static_cause, is_static, growt
 use Rattle.cal_transport.specs.Cause.{cause, current_segment, is_full}
 use Rattle.cal_transport.specs.Step.{IsLoan, after_loan, grown_ledger, new_chunk, slot_of}
 use Rattle.cal_transport.specs.Run.{IsRun, transit_at, transit_on, transit_list}
-use Rattle.cal_transport.specs.Parts.{weight}
+use Rattle.cal_transport.specs.Soundness.{weight}
 use Rattle.cal_transport.specs.FillList.{names_from, IsServed, AreServed, AreFilled, completed_after, fill_list, send_and_receive, send_and_leave, release_and_receive}
 use Rattle.cal_transport.proofs.Opening.{can_make}
 use Rattle.cal_transport.proofs.Lists.{old_or_new}

@@ -17,7 +17,7 @@ use Rattle.cal_transport.specs.LoanCause.{is_static}
 use Rattle.cal_transport.specs.Cause.{cause, send_cause, is_bucket_outside, is_buffer_full}
 use Rattle.cal_transport.specs.Step.{IsStepBy, Owes, after_step_by, after_command, front, name_sent_back, history_after_send, history_after_receive, with_changed_chunk}
 use Rattle.cal_transport.specs.Run.{AreStepsAndTransit, after_steps}
-use Rattle.cal_transport.specs.Parts.{weight}
+use Rattle.cal_transport.specs.Soundness.{weight}
 use Rattle.cal_transport.specs.FillList.{names_from, IsServed, AreServed}
 use Rattle.cal_transport.proofs.Names.{is_in_transit-weight}
 use Rattle.cal_transport.proofs.Steps.{find_first}

@@ -7,8 +7,7 @@ use Rattle.cal_alloc.specs.Growth.{SegmentLayout}
 use Rattle.cal_transport.specs.declared.command.Command.{Command}
 use Rattle.cal_transport.specs.declared.reply.Reply.{Reply}
 use Rattle.cal_transport.specs.Ledger.{Ledger, Chunk, ChannelHistory, new_history, layout_at, is_live, is_in_transit}
-use Rattle.cal_transport.specs.Parts.{weight}
-use Rattle.cal_transport.specs.Soundness.{HasRoom, HasSoundSegments, LiesWithin, ShareBucket, AreNamed, IsSoundHistory, IsSentChunk, IsSoundLedger}
+use Rattle.cal_transport.specs.Soundness.{HasRoom, HasSoundSegments, LiesWithin, ShareBucket, AreNamed, IsSoundHistory, IsSentChunk, IsSoundLedger, weight}
 use Rattle.cal_transport.proofs.Names.{is_in_transit-weight}
 use Rattle.cal_transport.proofs.Chunks.{same_place}
 use Rattle.cal_transport.proofs.Moving.{MovedTo}

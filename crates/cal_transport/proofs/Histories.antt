@@ -5,8 +5,7 @@ use Rattle.cal_transport.specs.declared.settings.Settings.{Settings}
 use Rattle.cal_transport.specs.Settings.{completion_size}
 use Rattle.cal_transport.specs.Ledger.{ChannelHistory, Departure, ByReceive, ByOverflow, received_names, occurrences, queued_names, completed_names, is_borrowed, borrow_count}
 use Rattle.cal_transport.specs.Step.{history_after_send, history_after_receive, history_after_release, history_after_reclaim}
-use Rattle.cal_transport.specs.Parts.{weight, IsOrderly}
-use Rattle.cal_transport.specs.Soundness.{departed_names, IsInOrder, IsWithinLimits, IsSoundHistory}
+use Rattle.cal_transport.specs.Soundness.{departed_names, IsInOrder, IsWithinLimits, IsSoundHistory, weight, IsOrderly}
 use Rattle.cal_transport.proofs.Names.{received-append, drop_front, drop_front_within, queued-sent_on, orderly_sent_on, queued-received_from, orderly_received_from, borrow_count-received_from, completed-released_on, orderly_released_on, borrow_count-released_on, completed-reclaimed_from, orderly_reclaimed_from}
 
 -- ---- lists

@@ -1,5 +1,5 @@
 -- Elements of lists by their places, where a place is written.
-use Rattle.std.proofs.Common.{ℕ, zero, suc, ◌≡◌, ◌≢◌, ◌⊎◌, inl, inr, List, [], ◌∷◌, ◌++◌, length, map, set, Some, refl, sym, ap, ◌∙◌, subst, arith}
+use Rattle.std.proofs.Common.{ℕ, zero, suc, ◌≡◌, ◌≢◌, ◌⊎◌, inl, inr, List, [], ◌∷◌, ◌++◌, length, map, set, Some, refl, sym, ap, arith}
 use Rattle.std.specs.List.{slice_get}
 use Rattle.std.proofs.lemmas.Option.{same_Some}
 use Rattle.std.proofs.lemmas.Bool.Decides.{eqb_tells}
@@ -21,19 +21,6 @@ slice_get-set_else (z ∷ xs) zero zero y apart = absurd (apart refl)
 slice_get-set_else (z ∷ xs) zero (suc j) y apart = refl
 slice_get-set_else (z ∷ xs) (suc i) zero y apart = refl
 slice_get-set_else (z ∷ xs) (suc i) (suc j) y apart = slice_get-set_else xs i j y (λ e. apart (ap suc e))
-
--- an element of a written list is the one that was written, or an old one at another place
-pub written_or_old : {A : Type 0} (xs : List A) (i j : ℕ) (x y z : A) → slice_get xs i ≡ Some z →
-    slice_get (set xs i y) j ≡ Some x →
-    ((j ≡ i) × (x ≡ y)) ⊎ ((j ≢ i) × (slice_get xs j ≡ Some x))
-written_or_old xs i j x y z here e = elim (same_or_apart j i) [
-  | inl same ↦ inl (
-    same,
-    same_Some x y
-        (sym (subst (λ k. slice_get (set xs i y) k ≡ Some x) same e) ∙ slice_get-set_same xs i z y here),
-  )
-  | inr apart ↦ inr (apart, sym (slice_get-set_else xs i j y apart) ∙ e)
-]
 
 -- a map of a written list, by another function that gives the same at the other places
 pub map-set_agree : {A B : Type 0} (f g : A → B) (xs : List A) (i : ℕ) (y : A) →
@@ -68,10 +55,6 @@ pub slice_get-append_old : {A : Type 0} (xs : List A) (y : A) (i : ℕ) (x : A) 
 slice_get-append_old [] y i x e = cc
 slice_get-append_old (z ∷ xs) y zero x e = e
 slice_get-append_old (z ∷ xs) y (suc i) x e = slice_get-append_old xs y i x e
-
-pub slice_get-append_new : {A : Type 0} (xs : List A) (y : A) → slice_get (xs ++ y ∷ []) (length xs) ≡ Some y
-slice_get-append_new [] y = refl
-slice_get-append_new (z ∷ xs) y = slice_get-append_new xs y
 
 pub old_or_new : {A : Type 0} (xs : List A) (y : A) (i : ℕ) (x : A) → slice_get (xs ++ y ∷ []) i ≡ Some x →
     (slice_get xs i ≡ Some x) ⊎ ((i ≡ length xs) × (x ≡ y))

@@ -5,8 +5,7 @@ use Rattle.cal_transport.specs.declared.command.Command.TheVariants as command
 use Rattle.cal_transport.specs.declared.reply.Reply.{Reply}
 use Rattle.cal_transport.specs.Ledger.{Ledger, ChannelHistory, occurrences}
 use Rattle.cal_transport.specs.Cause.{cause}
-use Rattle.cal_transport.specs.Parts.{weight}
-use Rattle.cal_transport.specs.Soundness.{IsSoundHistory}
+use Rattle.cal_transport.specs.Soundness.{IsSoundHistory, weight}
 use Rattle.cal_transport.proofs.Lists.{same_or_apart}
 use Rattle.cal_transport.proofs.Names.{occurrences_else, weight-sent_on, weight-received_from, weight-released_on, weight-reclaimed_from}
 use Rattle.cal_transport.proofs.Histories.{history_after_overflow, overflow_then_send, weight-overflowed, sound_sent, sound_overflowed, sound_replaced, sound_received, sound_released, sound_reclaimed}

@@ -11,7 +11,7 @@ use Rattle.cal_transport.specs.Settings.{completion_size}
 use Rattle.cal_transport.specs.Ledger.{Ledger, Chunk, ChannelHistory, queued_names, completed_names, is_borrowed, borrow_count}
 use Rattle.cal_transport.specs.Cause.{cause}
 use Rattle.cal_transport.specs.Step.{history_after_send, history_after_receive, history_after_release, history_after_reclaim}
-use Rattle.cal_transport.specs.Parts.{weight}
+use Rattle.cal_transport.specs.Soundness.{weight}
 
 -- the channel that a command names
 abbrev pub channel_of : Command → Option ℕ

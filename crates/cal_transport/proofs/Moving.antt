@@ -15,8 +15,7 @@ use Rattle.cal_transport.specs.Ledger.{Ledger, Chunk, ChannelHistory, history_on
 use Rattle.cal_transport.specs.LoanCause.{serves, next_segment}
 use Rattle.cal_transport.specs.Cause.{cause, current_segment, send_cause, is_channel_outside, is_bucket_outside, is_buffer_full}
 use Rattle.cal_transport.specs.Step.{IsStep, IsStepBy, Owes, after_step, after_step_by, after_command, after_loan, grown_ledger, front, slot_named, name_sent_back, history_after_send, history_after_receive, history_after_release, history_after_reclaim}
-use Rattle.cal_transport.specs.Parts.{weight}
-use Rattle.cal_transport.specs.Soundness.{IsSoundLedger}
+use Rattle.cal_transport.specs.Soundness.{IsSoundLedger, weight}
 use Rattle.cal_transport.proofs.Lists.{same_or_apart, slice_get-set_same, slice_get-set_else}
 use Rattle.cal_transport.proofs.Names.{is_in_transit-weight, occurrences_here}
 use Rattle.cal_transport.proofs.Chunks.{loaned_stands, sent_slot}

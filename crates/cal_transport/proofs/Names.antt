@@ -4,7 +4,7 @@ use Rattle.std.proofs.lemmas.List.{drop-append-le, append-nil}
 use Rattle.std.proofs.lemmas.Bool.Decides.{nat_tests, eqb_tells}
 use Rattle.cal_transport.specs.Ledger.{ChannelHistory, Departure, ByReceive, ByOverflow, received_names, occurrences, has_name, queued_names, completed_names, is_borrowed, borrow_count, is_in_transit}
 use Rattle.cal_transport.specs.Step.{history_after_send, history_after_receive, history_after_release, history_after_reclaim}
-use Rattle.cal_transport.specs.Parts.{weight, IsOrderly}
+use Rattle.cal_transport.specs.Soundness.{weight, IsOrderly}
 
 -- ---- lists of names
 

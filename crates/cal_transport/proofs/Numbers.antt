@@ -4,7 +4,7 @@ use Rattle.std.proofs.lemmas.List.{append-nil, length-map, map-append}
 use Rattle.std.proofs.lemmas.Bool.{lt-ltb}
 use Rattle.cal_transport.specs.Ledger.{ChannelHistory, ByReceive, received_names, occurrences, queued_names, completed_names, is_borrowed, borrow_count}
 use Rattle.cal_transport.specs.Step.{history_after_send, history_after_receive, history_after_release}
-use Rattle.cal_transport.specs.Parts.{weight}
+use Rattle.cal_transport.specs.Soundness.{weight}
 use Rattle.cal_transport.specs.FillList.{names_from}
 use Rattle.cal_transport.proofs.Names.{occurrences_else, occurrences_here}
 

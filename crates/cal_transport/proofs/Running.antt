@@ -1,7 +1,7 @@
--- Whole runs: what each answer keeps, and how steps make a run.
-use Rattle.std.proofs.Common.{ℕ, zero, suc, ◌+◌, ◌-◌, ◌<◌, ◌≤◌, ◌≡◌, ◌≢◌, inl, inr, min, Bool, true, false, cond, List, [], ◌∷◌, ◌++◌, length, drop, map, Option, Some, None, refl, sym, ap, ◌∙◌, subst, arith, length-append}
+-- Whole runs: the names of chunks are below the next place, and how steps make a run.
+use Rattle.std.proofs.Common.{ℕ, zero, suc, ◌+◌, ◌-◌, ◌<◌, ◌≤◌, ◌≡◌, inl, inr, Bool, true, false, cond, List, [], ◌∷◌, ◌++◌, length, drop, Option, Some, None, refl, sym, ap, ◌∙◌, subst, arith}
 use Rattle.std.specs.List.{slice_get}
-use Rattle.std.proofs.lemmas.Option.{same_Some, none-some, slice_get_within}
+use Rattle.std.proofs.lemmas.Option.{same_Some, none-some}
 use Rattle.std.proofs.lemmas.Bool.Decides.{eqb_tells}
 use Rattle.cal_transport.specs.declared.command.Command.{Command}
 use Rattle.cal_transport.specs.declared.command.Command.TheVariants as command
@@ -9,21 +9,12 @@ use Rattle.cal_transport.specs.declared.reply.Reply.{Reply}
 use Rattle.cal_transport.specs.declared.reply.Reply.TheVariants.{Loaned, Written, Sent, Received, Shown as Bytes, Released, Reclaimed, Discarded, Counted, Refused, Transit}
 use Rattle.cal_transport.specs.declared.reply.Refusal.{Refusal}
 use Rattle.cal_transport.specs.declared.settings.Settings.{Settings}
-use Rattle.cal_transport.specs.declared.chunk_record.ChunkRecord.{ChunkRecord}
-use Rattle.cal_transport.specs.Settings.{clamped_settings}
-use Rattle.cal_transport.specs.Ledger.{Ledger, Chunk, first_ledger, chunk_named}
+use Rattle.cal_transport.specs.Ledger.{Ledger, Chunk, first_ledger}
 use Rattle.cal_transport.specs.LoanCause.{serves, next_segment}
 use Rattle.cal_transport.specs.Cause.{cause, current_segment}
-use Rattle.cal_transport.specs.Step.{IsStep, IsStepBy, after_step, after_step_by, after_command, with_changed_chunk, after_loan, grown_ledger, bytes_of_chunk}
-use Rattle.std.specs.Bool.{MatchBool}
-use Rattle.cal_transport.specs.Replies.{ReplyList}
-use Rattle.cal_transport.specs.Built.{is_built}
-use Rattle.cal_transport.specs.Run.{AreSteps, after_steps, AreStepsAndTransit, StopsAt, transit_list, IsRun, TakesMemory, StopsForMemory, StopsUnbuilt, IsCount, HasNoCount}
+use Rattle.cal_transport.specs.Step.{IsStep, after_step, after_step_by, after_command, with_changed_chunk, after_loan, grown_ledger, bytes_of_chunk}
+use Rattle.cal_transport.specs.Run.{AreSteps, after_steps, AreStepsAndTransit, StopsAt, transit_list}
 use Rattle.std.proofs.lemmas.List.{length-take}
-use Rattle.cal_transport.specs.Serve.{RanOut}
-use Rattle.cal_transport.specs.Rules.{DoesAnywhere}
-use Rattle.cal_transport.specs.ChunkRecord.{AreBelow}
-use Rattle.cal_transport.specs.Parts.{Parts, Represents, Does, record_of}
 use Rattle.cal_transport.proofs.Lists.{old_or_new}
 
 -- ---- settings stay
@@ -80,7 +71,7 @@ steps_settings l place (asked ∷ commands) (reply ∷ replies) =
 
 -- ---- names rise
 
-pub NamesBelow : Ledger → ℕ → Type 0
+unfoldable pub NamesBelow : Ledger → ℕ → Type 0
 NamesBelow l n = (i : ℕ) (chunk : Chunk) → slice_get l.chunks i ≡ Some chunk → chunk.name < n
 
 below_more : (l : Ledger) (n : ℕ) → NamesBelow l n → NamesBelow l (n + 1)
@@ -168,21 +159,6 @@ pub first_below : (s : Settings) → NamesBelow (first_ledger s) 1
 unfolding NamesBelow
 first_below s i chunk e = absurd (none-some chunk e)
 
--- the entries' names are those of the chunks
-pub entries_below : (p : Parts) (l : Ledger) (n : ℕ) → Represents p l → NamesBelow l n → AreBelow p.records n
-unfolding NamesBelow
-entries_below p l n s below i entry e =
-    go s.rest.chunks i entry (sym (ap (λ es. slice_get es i) s.show.records) ∙ e)
-    (λ j chunk f. below j chunk (ap (λ m. slice_get m.chunks j) s.made ∙ f))
-  where
-    go : (chunks : List Chunk) (i : ℕ) (entry : ChunkRecord) →
-        slice_get (map (record_of s.rest.channel) chunks) i ≡ Some entry →
-        ((j : ℕ) (chunk : Chunk) → slice_get chunks j ≡ Some chunk → chunk.name < n) → entry.name < n
-    go [] i entry e below = absurd (none-some entry e)
-    go (x ∷ chunks) zero entry e below =
-        (let b = below 0 x refl in let same = ap (λ y. y.name) (same_Some _ entry e) in omega arith)
-    go (x ∷ chunks) (suc i) entry e below = go chunks i entry e (λ j chunk f. below (suc j) chunk f)
-
 -- ---- steps, one more at a time
 
 pub steps_more : (l : Ledger) (place : ℕ) (commands : List Command) (replies : List Reply) (asked : Command)
@@ -246,129 +222,6 @@ stops_at P l place (first ∷ commands) (reply ∷ replies) asked steps next met
 
 -- ---- a read that finds no memory
 
-shown_short : (o : Option Chunk) (at len : ℕ) → length (bytes_of_chunk o at len) ≤ len
+pub shown_short : (o : Option Chunk) (at len : ℕ) → length (bytes_of_chunk o at len) ≤ len
 shown_short None at len = omega arith
 shown_short (Some chunk) at len = let e = length-take len (drop at chunk.bytes) in omega arith
-
--- where bytes were lent, the command had no cause, and asked for as many
-pub read_ran_out : (p : Parts) (channel name at len : ℕ) (bytes : List ℕ) →
-    DoesAnywhere p (command.Read channel name at len) (Bytes bytes) p → 0 < length bytes →
-    RanOut p (command.Read channel name at len)
-read_ran_out p channel name at len bytes does some l s = go (cause l (command.Read channel name at len)) refl
-    ((does 0 l s).0)
-  where
-    go : (o : Option Refusal) → cause l (command.Read channel name at len) ≡ o →
-        IsStepBy o l 0 (command.Read channel name at len) (Bytes bytes) →
-        (0 < len) × (cause l (command.Read channel name at len) ≡ None)
-    go None e owes = (
-      let same : bytes ≡ bytes_of_chunk (chunk_named l name) at len = cc in
-          let long = ap length same in let short = shown_short (chunk_named l name) at len in omega arith,
-      e,
-    )
-    go (Some refusal) e refused = cc
-
--- ---- the loop
-
--- the replies so far are steps, the transport stands for the ledger after them, and there is room for what is left
-pub record IsRunning (settings : Settings) (commands : List Command) (p : Parts) (replies : ReplyList Reply)
-    (index room : ℕ) : Type 0 where
-  pub steps : AreSteps (first_ledger settings) 1 commands replies.items
-  pub stands : Represents p (after_steps (first_ledger settings) 1 commands replies.items)
-  pub turns : length replies.items ≡ index
-  pub entries_room : length commands ≤ p.room + index
-  pub spare : room ≤ replies.spare + index
-  pub no_count : (i : ℕ) → i < index → slice_get commands i ≢ Some command.Count
-
--- the names so far are below the next place
-pub running_below : (settings : Settings) (commands : List Command) (p : Parts) (replies : ReplyList Reply)
-    (index room : ℕ) →
-    IsRunning settings commands p replies index room → AreBelow p.records (index + 1)
-running_below settings commands p replies index room r =
-    let below = steps_below (first_ledger settings) 1 commands replies.items (first_below settings) in
-    subst (AreBelow p.records) (let t = r.turns in let e : 1 + length replies.items ≡ index + 1 = omega arith in e)
-    (entries_below p (after_steps (first_ledger settings) 1 commands replies.items) (1 + length replies.items) r.stands
-    below)
-
--- one more answer
-pub runs_on : (settings : Settings) (commands : List Command) (old new : Parts) (before after' : ReplyList Reply)
-    (index room : ℕ) (asked : Command) (reply : Reply) →
-    IsRunning settings commands old before index room → slice_get commands index ≡ Some asked →
-    Does old (index + 1) asked reply new →
-    old.room ≤ new.room + 1 → after'.items ≡ before.items ++ reply ∷ [] → after'.spare ≡ before.spare - 1 →
-    0 < before.spare →
-    asked ≢ command.Count → IsRunning settings commands new after' (index + 1) room
-runs_on settings commands old new before after' index room asked reply r next does kept pushed departures some
-    uncounted =
-    let l = after_steps (first_ledger settings) 1 commands before.items in
-    let next' : slice_get commands (length before.items) ≡ Some asked = ap (slice_get commands) r.turns ∙ next in
-    let place : index + 1 ≡ 1 + length before.items = (let t = r.turns in omega arith) in
-    let d : Does old (1 + length before.items) asked reply new = subst (λ n. Does old n asked reply new) place does in
-    let both = d l r.stands in
-    let more = after_steps-more (first_ledger settings) 1 commands before.items asked reply r.steps next' in
-    let t = r.turns in let a = r.entries_room in let b = r.spare in
-    let long = ap length pushed ∙ length-append before.items (reply ∷ []) in
-    record {
-      steps = subst (AreSteps (first_ledger settings) 1 commands) (sym pushed)
-          (steps_more (first_ledger settings) 1 commands before.items asked reply r.steps next' both.0);
-      stands = subst (λ rs. Represents new (after_steps (first_ledger settings) 1 commands rs)) (sym pushed)
-          (subst (Represents new) (sym more) both.1);
-      turns = omega arith;
-      entries_room = omega arith;
-      spare = omega arith;
-      no_count = λ i small e. elim (eqb_tells i index) [
-        | inl last ↦ uncounted (same_Some asked command.Count (sym next ∙ ap (slice_get commands) (sym last.1) ∙ e))
-        | inr other ↦ r.no_count i (let apart = other.1 in omega arith) e
-      ];
-    }
-
--- how much the walk may list is known from the settings
-pub most_is : (settings : Settings) (commands : List Command) (replies : List Reply) (p : Parts) →
-    Represents p (after_steps (first_ledger settings) 1 commands replies) →
-    min p.pool.buckets.count p.settings.samples ≡ min settings.count (clamped_settings settings).samples
-most_is settings commands replies p s =
-    let same : p.settings ≡ clamped_settings settings = sym (ap (λ l. l.settings) s.made)
-    ∙ steps_settings (first_ledger settings) 1 commands replies in
-    ap (λ b. min b.count p.settings.samples) s.show.ready.first ∙ ap (λ x. min x.count x.samples) same
-
--- a run that went through
-pub ran : (settings : Settings) (commands : List Command) (p : Parts) (replies : ReplyList Reply) (all : List Reply)
-    (index room : ℕ) →
-    IsRunning settings commands p replies index room → index ≡ length commands →
-    ((l : Ledger) → Represents p l → all ≡ replies.items ++ transit_list l) → IsRun settings commands all
-ran settings commands p replies all index room r whole listed =
-    let l = after_steps (first_ledger settings) 1 commands replies.items in
-    subst (IsRun settings commands) (sym (listed l r.stands))
-    (steps_transit (first_ledger settings) 1 commands replies.items r.steps (r.turns ∙ whole))
-
--- it met no command that counts
-pub ran_uncounted : (settings : Settings) (commands : List Command) (p : Parts) (replies : ReplyList Reply)
-    (index room : ℕ) →
-    IsRunning settings commands p replies index room → index ≡ length commands → HasNoCount commands
-ran_uncounted settings commands p replies index room r whole place e =
-    r.no_count place (let below = slice_get_within commands place command.Count e in omega arith) e
-
--- a run that ran out of memory at a command
-pub ran_out : (settings : Settings) (commands : List Command) (p : Parts) (replies : ReplyList Reply) (index room : ℕ)
-    (asked : Command) →
-    IsRunning settings commands p replies index room → slice_get commands index ≡ Some asked → RanOut p asked →
-    StopsForMemory settings commands replies.items
-ran_out settings commands p replies index room asked r next out =
-    go replies.items (stops_at TakesMemory (first_ledger settings) 1 commands replies.items asked r.steps
-    (ap (slice_get commands) r.turns ∙ next)
-    (out (after_steps (first_ledger settings) 1 commands replies.items) r.stands))
-  where
-    go : (rs : List Reply) → StopsAt TakesMemory (first_ledger settings) 1 commands rs →
-        StopsForMemory settings commands rs
-    go [] stops = tt
-    go (reply ∷ rs) stops = stops
-
--- a run that came to a command that isn't served
-pub ran_unbuilt : (settings : Settings) (commands : List Command) (p : Parts) (replies : ReplyList Reply)
-    (index room : ℕ) (asked : Command) → is_built settings ≡ true →
-    IsRunning settings commands p replies index room → slice_get commands index ≡ Some asked → asked ≡ command.Count →
-    StopsUnbuilt settings commands replies.items
-ran_unbuilt settings commands p replies index room asked built r next is =
-    subst (λ b. MatchBool b (StopsAt IsCount (first_ledger settings) 1 commands replies.items) (replies.items ≡ []))
-    (sym built)
-    (stops_at IsCount (first_ledger settings) 1 commands replies.items asked r.steps
-    (ap (slice_get commands) r.turns ∙ next) is)

@@ -17,8 +17,7 @@ use Rattle.cal_transport.specs.Ledger.{Ledger, Chunk, ChannelHistory, new_histor
 use Rattle.cal_transport.specs.Cause.{cause, write_cause, exceeds_bucket}
 use Rattle.cal_transport.specs.Step.{IsStep, IsStepBy, Owes, after_step, after_step_by, after_command, front, name_sent_back, history_after_send, history_after_receive, history_after_release, history_after_reclaim, with_bytes, with_changed_chunk, grown_ledger, opened_after_receive, chunk_to_receive}
 use Rattle.cal_transport.specs.Run.{AreSteps, after_steps}
-use Rattle.cal_transport.specs.Parts.{weight}
-use Rattle.cal_transport.specs.Soundness.{HasSizes, IsSoundHistory, IsSentChunk, IsSoundLedger}
+use Rattle.cal_transport.specs.Soundness.{HasSizes, IsSoundHistory, IsSentChunk, IsSoundLedger, weight}
 use Rattle.cal_transport.proofs.Opening.{can_make}
 use Rattle.cal_transport.proofs.Steps.{find_stands}
 use Rattle.cal_transport.proofs.Chunks.{same_place, loaned_stands}

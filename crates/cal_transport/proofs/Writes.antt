@@ -5,7 +5,7 @@ use Rattle.std.proofs.lemmas.Bool.{cases_lt}
 use Rattle.std.proofs.lemmas.List.{get_or-take, get_or-drop, get_or_append_left, get_or-append_right, length-take}
 use Rattle.std.proofs.lemmas.Grind.{same_number_lists}
 use Rattle.cal_transport.specs.Step.{with_bytes}
-use Rattle.cal_transport.specs.Parts.{bytes_at}
+use Rattle.cal_transport.specs.Shown.{bytes_at}
 
 length-front : (m : List ℕ) (a : ℕ) (bytes : List ℕ) → a + length bytes ≤ length m →
     length (take a m ++ bytes) ≡ a + length bytes

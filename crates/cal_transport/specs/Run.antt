@@ -1,15 +1,10 @@
 -- Runs of the ledger: steps for a list of commands, and the chunks that are in transit after them.
-use Rattle.std.specs.Prelude.{ℕ, ◌+◌, ◌<◌, ◌≡◌, ◌≢◌, ◌&&◌, ◌==◌, IsTrue, MatchBool, length, filter, map, flat_map, List, [], ◌∷◌, Some, None}
-use Rattle.std.specs.List.{slice_get}
+use Rattle.std.specs.Prelude.{ℕ, ◌+◌, ◌<◌, ◌≡◌, ◌&&◌, ◌==◌, IsTrue, length, filter, map, flat_map, List, [], ◌∷◌, None}
 use Rattle.cal_transport.specs.declared.settings.Settings.{Settings}
 use Rattle.cal_transport.specs.declared.command.Command.{Command}
 use Rattle.cal_transport.specs.declared.command.Command.TheVariants as command
 use Rattle.cal_transport.specs.declared.reply.Reply.{Reply}
 use Rattle.cal_transport.specs.declared.reply.Reply.TheVariants.{Transit}
-use Rattle.cal_transport.specs.declared.run.RunError.{RunError}
-use Rattle.cal_transport.specs.declared.run.RunError.TheVariants.{Create, NoMemory, NotBuilt}
-use Rattle.cal_transport.specs.Settings.{create_cause}
-use Rattle.cal_transport.specs.Built.{is_built}
 use Rattle.cal_transport.specs.Ledger.{Ledger, Chunk, first_ledger, history_on, layout_at, numbers_below, is_in_transit}
 use Rattle.cal_transport.specs.LoanCause.{needs_segment}
 use Rattle.cal_transport.specs.Cause.{cause, current_segment}
@@ -79,27 +74,3 @@ abbrev pub StopsForMemory : Settings → List Command → List Reply → Type 0
 StopsForMemory settings commands [] = Unit {0}
 StopsForMemory settings commands (reply ∷ replies) =
     StopsAt TakesMemory (first_ledger settings) 1 commands (reply ∷ replies)
-
--- ---- what isn't built yet: memory that grows, overflow, several channels, and counting
-
-abbrev pub IsCount : Ledger → Command → Type 0
-IsCount l asked = asked ≡ command.Count
-
--- no command is one that counts
-abbrev pub HasNoCount : List Command → Type 0
-HasNoCount commands = (place : ℕ) → slice_get commands place ≢ Some command.Count
-
--- the settings aren't built, or the next command isn't
-abbrev pub StopsUnbuilt : Settings → List Command → List Reply → Type 0
-StopsUnbuilt settings commands replies =
-    MatchBool (is_built settings) (StopsAt IsCount (first_ledger settings) 1 commands replies) (replies ≡ [])
-
--- ---- how a run ends otherwise
-
--- why there is no run
-abbrev pub HasError : Settings → List Command → RunError → Type 0
-HasError settings commands (Create found) = create_cause settings ≡ Some found
-HasError settings commands (NotBuilt replies) = (create_cause settings ≡ None) × StopsUnbuilt settings commands
-    replies.items
-HasError settings commands (NoMemory replies) =
-    (create_cause settings ≡ None) × IsTrue (is_built settings) × StopsForMemory settings commands replies.items

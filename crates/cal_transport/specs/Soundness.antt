@@ -1,13 +1,12 @@
 -- What every ledger that a run reaches has: the ledger is sound.
-use Rattle.std.specs.Prelude.{ℕ, ◌%◌, ◌<◌, ◌≤◌, ◌≡◌, true, length, take, List, [], ◌∷◌, Some}
+use Rattle.std.specs.Prelude.{ℕ, ◌%◌, ◌<◌, ◌≤◌, ◌≡◌, true, length, take, List, [], ◌∷◌, Some, ◌+◌, ◌-◌}
 use Rattle.std.specs.Int.{is_power_of_two}
 use Rattle.std.specs.List.{slice_get}
 use Rattle.cal_alloc.specs.Growth.{SegmentLayout}
 use Rattle.cal_alloc.specs.Limits.{max_memory_size, bucket_limit, max_memory_alignment}
 use Rattle.cal_transport.specs.declared.settings.Settings.{Settings}
 use Rattle.cal_transport.specs.Settings.{payload, completion_size}
-use Rattle.cal_transport.specs.Ledger.{Ledger, Chunk, ChannelHistory, Departure, ByReceive, ByOverflow, queued_names, completed_names, borrow_count, layout_at, is_live}
-use Rattle.cal_transport.specs.Parts.{weight, IsOrderly}
+use Rattle.cal_transport.specs.Ledger.{Ledger, Chunk, ChannelHistory, Departure, ByReceive, ByOverflow, queued_names, completed_names, borrow_count, layout_at, is_live, received_names, occurrences}
 
 -- ---- segments and chunks
 
@@ -38,6 +37,20 @@ pub record AreNamed (chunks : List Chunk) (place : ℕ) : Type 0 where
   pub before : (i : ℕ) (a : Chunk) → slice_get chunks i ≡ Some a → a.name < place
 
 -- ---- channels
+
+-- how often a name is queued, borrowed or completed
+abbrev pub weight : ChannelHistory → ℕ → ℕ
+weight c name =
+    occurrences name (queued_names c) + (occurrences name (received_names c.departures) - occurrences name c.released) +
+    occurrences name (completed_names c)
+
+-- each chunk is on its way once at most, and nothing comes back that didn't go
+pub record IsOrderly (c : ChannelHistory) : Type 0 where
+  pub left_sent : length c.departures ≤ length c.sent
+  pub released_received : length c.released ≤ length (received_names c.departures)
+  pub reclaimed_released : length c.reclaimed ≤ length c.released
+  pub named : (name : ℕ) → occurrences name c.released ≤ occurrences name (received_names c.departures)
+  pub once : (name : ℕ) → weight c name ≤ 1
 
 -- the names that left a queue, in order
 abbrev pub departed_names : List Departure → List ℕ

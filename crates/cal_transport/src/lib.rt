@@ -2,12 +2,10 @@
 #![tactic(auto)]
 
 mod bytes;
-mod chunk_record;
 mod command;
 pub mod examples;
 mod fill_list;
 pub mod laws;
-mod memory;
 mod replies;
 mod reply;
 mod run;
@@ -23,3 +21,7 @@ pub use replies::Replies;
 pub use reply::{Count, Refusal, Reply, Slot};
 pub use run::{RunError, run_transport};
 pub use settings::{CreateCause, Settings};
+pub use transport::Transport;
+pub use transport::access::ChunkRecord;
+pub use transport::loaning::LoanError;
+pub use transport::making::OpenError;

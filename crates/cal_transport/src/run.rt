@@ -1,15 +1,16 @@
-//! A whole run: a transport is made, each command is served in turn, and what is in transit then is told.
+//! A whole run: a transport is opened, each command is served in turn, and what is in transit then is told.
 
-ghost use Rattle.std.specs.Prelude.{ℕ, ◌≡◌, ◌≢◌, ◌+◌, ◌<◌, ◌≤◌, OnOk, IfOk, IfErr, None, Some, Err, IsTrue};
+ghost use Rattle.std.specs.Prelude.{ℕ, ◌≡◌, ◌+◌, ◌<◌, OnOk, OnErr, IfOk, IfErr, None, Some, Err, IsSomeAnd};
 ghost use Rattle.cal_transport.specs.Settings.{create_cause};
-ghost use Rattle.cal_transport.specs.Built.{is_built};
 ghost use Rattle.cal_transport.specs.Capacity.{HasCapacity};
+ghost use Rattle.cal_transport.specs.ChunkEntry.{AreBelow};
 ghost use Rattle.cal_transport.specs.FillList.{AreFilled, AreServed, completed_after, fill_list};
-ghost use Rattle.cal_transport.specs.ChunkRecord.{AreBelow};
-ghost use Rattle.cal_transport.specs.Rules.{DoesAnywhere};
-ghost use Rattle.cal_transport.specs.Serve.{NotServed, reply_to};
-ghost use Rattle.cal_transport.specs.Parts.{Does};
-ghost use Rattle.cal_transport.specs.Run.{IsRun, HasError, HasNoCount};
+ghost use Rattle.cal_transport.specs.Room.{TakesRoomOfOne};
+ghost use Rattle.cal_transport.specs.Ledger.{Ledger};
+ghost use Rattle.cal_transport.specs.Run.{IsRun};
+ghost use Rattle.cal_transport.specs.Serve.{reply_to, reply_at_end};
+ghost use Rattle.cal_transport.specs.Served.{RunsOut, StandsAfter, IsNotRun, IsLeftByError};
+ghost use Rattle.cal_transport.specs.Standing.{StandsFor, Does, DoesAnywhere};
 
 use crate::bytes::Bytes;
 use crate::command::Command;
@@ -17,8 +18,9 @@ use crate::replies::Replies;
 use crate::reply::{Refusal, Reply};
 use crate::settings::{CreateCause, Settings};
 use crate::transport::Transport;
-use cal_alloc::AllocationStrategy;
-use std::alloc::Global;
+use crate::transport::loaning::LoanError;
+use crate::transport::making::OpenError;
+use std::alloc::{AllocError, Global};
 use thiserror::Error;
 
 /// Why there is no whole run.
@@ -30,35 +32,25 @@ pub enum RunError {
     /// Memory ran out. The replies answer the commands before.
     #[error("RunError::NoMemory")]
     NoMemory(Replies<Reply>),
-    /// The settings, or the next command, aren't served yet. The replies answer the commands before.
-    #[error("RunError::NotBuilt")]
-    NotBuilt(Replies<Reply>),
-}
-
-/// Why a command has no reply. The transport is as before.
-#[derive(Clone, Copy)]
-enum ServeError {
-    /// Memory ran out, which only the bytes of a read can meet.
-    NoMemory,
-    /// The command isn't served yet.
-    NotBuilt,
 }
 
 /// Runs the commands over a transport with these settings. There is one reply for each command, and then one for
-/// each chunk in transit. A sender that finds nothing to reclaim between any two of its sends never makes a release
-/// fail, and the commands of the fill list show that a smaller completion queue would.
+/// each chunk in transit. `end` is the transport that ran the commands then, also where memory ran out after a reply;
+/// else there is none.
 pub fn run_transport(
     alloc: Global,
     settings: &Settings,
     commands: &[Command],
+    end: &mut Option<Transport>,
 ) -> Result<Replies<Reply>, RunError>
+    requires none { end.old ≡ None }
     ensures run { IfOk result (λ replies. IsRun settings.now commands.now replies.items) }
     ensures made { OnOk result (create_cause settings.now ≡ None) }
-    ensures built { OnOk result (IsTrue (is_built settings.now)) }
-    ensures served { OnOk result (HasNoCount commands.now) }
     ensures create { (cause : CreateCause) → create_cause settings.now ≡ Some cause →
         result ≡ Err (RunError.Create cause) }
-    ensures error { IfErr result (HasError settings.now commands.now) }
+    ensures error { IfErr result (IsNotRun settings.now commands.now) }
+    ensures end { IfOk result (λ replies. IsSomeAnd end.new (StandsAfter settings.now commands.now replies.items)) }
+    ensures left { IfErr result (λ error. IsLeftByError settings.now commands.now error end.new) }
     ensures capacity { IfOk result (λ replies. HasCapacity commands.now replies.items) }
     ensures filled { IfOk result (λ replies. (buffer borrow : ℕ) → AreFilled settings.now buffer borrow →
         commands.now ≡ fill_list buffer borrow → AreServed (buffer + borrow + 1) commands.now replies.items) }
@@ -66,54 +58,50 @@ pub fn run_transport(
         commands.now ≡ fill_list buffer borrow →
         completed_after settings.now commands.now replies.items ≡ buffer + borrow + 1) }
 {
-    if let Some(cause) = settings.create_cause() {
-        return Err(RunError::Create(cause));
-    }
-    if !is_built(settings) {
-        return Err(RunError::NotBuilt(Replies::empty(alloc)));
-    }
-    let Ok(mut transport) = Transport::open(alloc, settings, commands.len()) else {
-        return Err(RunError::NoMemory(Replies::empty(alloc)));
+    let mut transport = match Transport::open(alloc, settings, commands.len()) {
+        Ok(transport) => transport,
+        Err(OpenError::Create(cause)) => return Err(RunError::Create(cause)),
+        Err(OpenError::NoMemory) => return Err(RunError::NoMemory(Replies::empty(alloc))),
     };
-    let room = commands.len() + transport.most_in_transit();
+    // a command puts one chunk in transit at most
+    let room = commands.len() + commands.len();
     let Ok(mut replies) = Replies::new(alloc, room) else {
         return Err(RunError::NoMemory(Replies::empty(alloc)));
     };
     for (index, command) in commands.iter().enumerate() {
         match transport.serve(alloc, index + 1, command) {
             Ok(reply) => replies.push(reply),
-            Err(ServeError::NoMemory) => return Err(RunError::NoMemory(replies)),
-            Err(ServeError::NotBuilt) => return Err(RunError::NotBuilt(replies)),
+            Err(_) => {
+                if replies.len() == 0 {
+                    return Err(RunError::NoMemory(replies));
+                }
+                *end = Some(transport);
+                return Err(RunError::NoMemory(replies));
+            }
         }
     }
     transport.transit(&mut replies);
+    *end = Some(transport);
     Ok(replies)
 }
 
-/// Whether transports with these settings are served yet.
-fn is_built(settings: &Settings) -> bool
-    ensures value { result ≡ is_built settings.now }
-{
-    settings.strategy == AllocationStrategy::Static && !settings.overflow && settings.channels <= 1
-}
-
 impl Transport {
-    /// Answers one command. A chunk that it loans is named by the command's place, which is greater than all names.
-    fn serve(&mut self, alloc: Global, place: usize, command: &Command) -> Result<Reply, ServeError>
-        requires below { AreBelow self.old.records place }
-        requires room { 0 < self.old.room }
+    /// Answers one command. A chunk that it loans is named by the command's place, which is greater than all names. The
+    /// error is that memory ran out, which a loan that needs a segment can meet, and the bytes of a read; the transport
+    /// stands for what it stood for then.
+    fn serve(&mut self, alloc: Global, place: usize, command: &Command) -> Result<Reply, AllocError>
+        requires below { AreBelow self.old.entries place }
+        requires room { 0 < self.old.spare }
         ensures served { IfOk result (λ reply. Does self.old place command.now reply self.new) }
-        ensures error { IfErr result (NotServed self.old command.now) }
-        ensures counts { OnOk result (command.now ≢ Command.Count) }
-        ensures room { self.old.room ≤ self.new.room + 1 }
+        ensures room { OnOk result (TakesRoomOfOne self.old self.new) }
+        ensures error { OnErr result (RunsOut self.old command.now) }
+        ensures same { OnErr result ((l : Ledger) → StandsFor self.old l → StandsFor self.new l) }
     {
         match command {
-            Command::Loan { size, alignment } => Ok(reply_to(
-                self.loan(place, *size, *alignment).map(Reply::Loaned),
-            )),
-            Command::Write { chunk, at, bytes } => Ok(reply_to(
-                self.write(*chunk, *at, bytes.as_slice())
-                    .map(|()| Reply::Written),
+            Command::Loan { size, alignment } => self.answer_loan(alloc, place, *size, *alignment),
+            Command::Write { chunk, at, bytes } => Ok(reply_at_end(
+                self.write(*chunk, *at, bytes.as_slice()),
+                Reply::Written,
             )),
             Command::Send { channel, chunk } => {
                 Ok(reply_to(self.send(*channel, *chunk).map(Reply::Sent)))
@@ -127,16 +115,39 @@ impl Transport {
                 at,
                 length,
             } => self.show(alloc, *channel, *chunk, *at, *length),
-            Command::Release { channel, chunk } => Ok(reply_to(
-                self.release(*channel, *chunk).map(|()| Reply::Released),
+            Command::Release { channel, chunk } => Ok(reply_at_end(
+                self.release(*channel, *chunk),
+                Reply::Released,
             )),
             Command::Reclaim { channel } => {
                 Ok(reply_to(self.reclaim(*channel).map(Reply::Reclaimed)))
             }
             Command::Discard { chunk } => {
-                Ok(reply_to(self.discard(*chunk).map(|()| Reply::Discarded)))
+                Ok(reply_at_end(self.discard(*chunk), Reply::Discarded))
             }
-            Command::Count => Err(ServeError::NotBuilt),
+            Command::Count => Ok(Reply::Counted(self.count())),
+        }
+    }
+
+    /// Answers a loan.
+    fn answer_loan(
+        &mut self,
+        alloc: Global,
+        place: usize,
+        size: usize,
+        alignment: usize,
+    ) -> Result<Reply, AllocError>
+        requires below { AreBelow self.old.entries place }
+        requires room { 0 < self.old.spare }
+        ensures served { IfOk result (λ reply. Does self.old place (Command.Loan size alignment) reply self.new) }
+        ensures room { OnOk result (TakesRoomOfOne self.old self.new) }
+        ensures error { OnErr result (RunsOut self.old (Command.Loan size alignment)) }
+        ensures same { OnErr result ((l : Ledger) → StandsFor self.old l → StandsFor self.new l) }
+    {
+        match self.loan(alloc, place, size, alignment) {
+            Ok(slot) => Ok(Reply::Loaned(slot)),
+            Err(LoanError::Refused(refusal)) => Ok(Reply::Refused(refusal)),
+            Err(LoanError::NoMemory) => Err(AllocError),
         }
     }
 
@@ -148,18 +159,15 @@ impl Transport {
         chunk: usize,
         at: usize,
         length: usize,
-    ) -> Result<Reply, ServeError>
+    ) -> Result<Reply, AllocError>
         ensures shown { IfOk result (λ reply.
             DoesAnywhere self.now (Command.Read channel chunk at length) reply self.now) }
-        ensures error { IfErr result (NotServed self.now (Command.Read channel chunk at length)) }
+        ensures error { OnErr result (RunsOut self.now (Command.Read channel chunk at length)) }
     {
         match self.read(channel, chunk, at, length) {
             Err(refusal) => Ok(Reply::Refused(refusal)),
             Ok([]) => Ok(Reply::Shown(Bytes::empty(alloc))),
-            Ok(bytes) => match Bytes::new(alloc, bytes) {
-                Ok(bytes) => Ok(Reply::Shown(bytes)),
-                Err(_) => Err(ServeError::NoMemory),
-            },
+            Ok(bytes) => Ok(Reply::Shown(Bytes::new(alloc, bytes)?)),
         }
     }
 }
@@ -169,4 +177,14 @@ fn reply_to(answer: Result<Reply, Refusal>) -> Reply
     ensures value { result ≡ reply_to answer }
 {
     answer.unwrap_or_else(Reply::Refused)
+}
+
+/// The reply to a command that tells nothing but that it was done, or its refusal.
+fn reply_at_end(answer: Result<(), Refusal>, reply: Reply) -> Reply
+    ensures value { result ≡ reply_at_end answer reply }
+{
+    match answer {
+        Ok(()) => reply,
+        Err(refusal) => Reply::Refused(refusal),
+    }
 }

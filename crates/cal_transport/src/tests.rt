@@ -1,9 +1,11 @@
 //! What no clause says: that calls succeed with ample memory, and the texts of errors.
 
 use crate::{
-    Bytes, Command, CreateCause, Refusal, Replies, Reply, RunError, Settings, Slot, run_transport,
+    Bytes, ChunkRecord, Command, CreateCause, LoanError, OpenError, Refusal, Replies, Reply,
+    RunError, Settings, Slot, Transport, run_transport,
 };
 use cal_alloc::AllocationStrategy;
+use cal_names::NamedConcept;
 use std::alloc::{AllocError, Global};
 use std::process::Abort;
 use std::test::Fail;
@@ -113,10 +115,23 @@ fn a_chunk_that_was_given_back_is_in_transit(rt: HostRuntime) -> Result<(), Fail
             slot: FIRST,
         },
     ];
-    match run_transport(rt.alloc(), &SMALL, commands.as_slice()) {
+    let mut end = None;
+    match run_transport(rt.alloc(), &SMALL, commands.as_slice(), &mut end) {
         Ok(replies) => assert_replies(&rt, &replies, &due),
         Err(_) => return Err("the run is whole".into()),
     }
+    let transport = end.ok_or("the run leaves its transport")?;
+    assert_eq!(rt; transport.in_transit(), 1);
+    assert_eq!(rt;
+        transport.chunk(1),
+        Some(ChunkRecord {
+            segment: 0,
+            place: 0,
+            loaned: false,
+            sent: true
+        })
+    );
+    assert_eq!(rt; transport.chunk(6), None);
     Ok(())
 }
 
@@ -124,36 +139,101 @@ fn a_chunk_that_was_given_back_is_in_transit(rt: HostRuntime) -> Result<(), Fail
 fn a_reclaim_ends_the_way_of_a_chunk(rt: HostRuntime) -> Result<(), Fail> {
     let mut commands = way_of_a_chunk(rt.alloc())?;
     commands.push(Command::Reclaim { channel: 0 })?;
-    match run_transport(rt.alloc(), &SMALL, commands.as_slice()) {
+    let mut end = None;
+    match run_transport(rt.alloc(), &SMALL, commands.as_slice(), &mut end) {
         Ok(replies) => {
             assert_eq!(rt; replies.len(), 9);
             assert_eq!(rt; replies.get(8), Some(&Reply::Reclaimed(Some(FIRST))));
         }
         Err(_) => return Err("the run is whole".into()),
     }
+    let transport = end.ok_or("the run leaves its transport")?;
+    assert_eq!(rt; transport.in_transit(), 0);
+    assert_eq!(rt; transport.chunk(1), None);
     Ok(())
 }
 
 #[test]
 fn why_there_is_no_run(rt: HostRuntime) -> Result<(), Fail> {
+    let mut end = None;
     let odd = Settings {
         alignment: 3,
         ..SMALL
     };
-    let create = run_transport(rt.alloc(), &odd, &[]);
+    let create = run_transport(rt.alloc(), &odd, &[], &mut end);
     assert!(rt; matches!(create, Err(RunError::Create(CreateCause::BadLayout))));
-    let growing = Settings {
-        strategy: AllocationStrategy::BestFit,
-        ..SMALL
-    };
-    let unbuilt = run_transport(rt.alloc(), &growing, &[]);
-    assert!(rt; matches!(&unbuilt, Err(RunError::NotBuilt(replies)) if replies.len() == 0));
+    assert!(rt; end.is_none());
     let large = Settings {
         size: 1 << 56,
         ..SMALL
     };
-    let no_memory = run_transport(rt.alloc(), &large, &[]);
+    let no_memory = run_transport(rt.alloc(), &large, &[], &mut end);
     assert!(rt; matches!(&no_memory, Err(RunError::NoMemory(replies)) if replies.len() == 0));
+    assert!(rt; end.is_none());
+    Ok(())
+}
+
+/// Memory that begins with one bucket of eight bytes and grows.
+const GROWING: Settings = Settings {
+    strategy: AllocationStrategy::BestFit,
+    ..SMALL
+};
+
+/// A loan for which the memory grows, by more bytes than any machine has.
+fn large_loan() -> Command {
+    Command::Loan {
+        size: 1 << 55,
+        alignment: 8,
+    }
+}
+
+#[test]
+fn a_run_whose_memory_runs_out_leaves_its_transport(rt: HostRuntime) -> Result<(), Fail> {
+    let mut end = None;
+    let commands = [
+        loan(),
+        Command::Send {
+            channel: 0,
+            chunk: 1,
+        },
+        large_loan(),
+        loan(),
+    ];
+    let due = [Reply::Loaned(FIRST), Reply::Sent(None)];
+    match run_transport(rt.alloc(), &GROWING, &commands, &mut end) {
+        Err(RunError::NoMemory(replies)) => assert_replies(&rt, &replies, &due),
+        _ => return Err("memory runs out".into()),
+    }
+    let transport = end.ok_or("the run leaves its transport")?;
+    assert_eq!(rt; transport.in_transit(), 1);
+    let mut lines = Replies::new(rt.alloc(), 1)?;
+    transport.transit(&mut lines);
+    let line = Reply::Transit {
+        channel: 0,
+        slot: FIRST,
+    };
+    assert_replies(&rt, &lines, &[line]);
+    Ok(())
+}
+
+#[test]
+fn a_run_that_answers_nothing_leaves_none(rt: HostRuntime) -> Result<(), Fail> {
+    let mut end = None;
+    let no_memory = run_transport(rt.alloc(), &GROWING, &[large_loan()], &mut end);
+    assert!(rt; matches!(&no_memory, Err(RunError::NoMemory(replies)) if replies.len() == 0));
+    assert!(rt; end.is_none());
+    Ok(())
+}
+
+#[test]
+fn the_parts_of_a_new_transport(rt: HostRuntime) -> Result<(), Fail> {
+    let transport = Transport::open(rt.alloc(), &SMALL, 0)?;
+    assert_eq!(rt; transport.memory().number_of_active_segments(), 1);
+    assert_eq!(rt; transport.view().number_of_active_segments(), 0);
+    // what manages the memory, and its first segment
+    assert_eq!(rt; transport.memory_registry().len(), 2);
+    assert_eq!(rt; transport.connection_registry().len(), 1);
+    assert!(rt; transport.sender().name() == transport.receiver().name());
     Ok(())
 }
 
@@ -169,10 +249,25 @@ fn the_texts_of_errors(rt: HostRuntime) -> Result<(), Fail> {
         format!(in rt.alloc(); "{no_memory}")?.as_str(),
         "RunError::NoMemory"
     );
-    let unbuilt = RunError::NotBuilt(Replies::empty(rt.alloc()));
+    let not_opened = OpenError::Create(CreateCause::BadLayout);
     assert_eq!(rt;
-        format!(in rt.alloc(); "{unbuilt}")?.as_str(),
-        "RunError::NotBuilt"
+        format!(in rt.alloc(); "{not_opened}")?.as_str(),
+        "OpenError::Create"
+    );
+    let no_transport = OpenError::NoMemory;
+    assert_eq!(rt;
+        format!(in rt.alloc(); "{no_transport}")?.as_str(),
+        "OpenError::NoMemory"
+    );
+    let refused = LoanError::Refused(Refusal::BadLayout);
+    assert_eq!(rt;
+        format!(in rt.alloc(); "{refused}")?.as_str(),
+        "LoanError::Refused"
+    );
+    let no_segment = LoanError::NoMemory;
+    assert_eq!(rt;
+        format!(in rt.alloc(); "{no_segment}")?.as_str(),
+        "LoanError::NoMemory"
     );
     Ok(())
 }

@@ -1,4 +1,7 @@
 //! Why growing memory isn't made, why it isn't opened, and what is there after each.
+ghost use Rattle.std.specs.Prelude.{IfOk};
+ghost use Rattle.cal_resizable.specs.Memory.{HasAll};
+ghost use Rattle.cal_resizable.specs.View.{HasView};
 
 use crate::{DynamicMemory, DynamicMemoryBuilder, DynamicView, DynamicViewBuilder};
 use cal_alloc::{BumpAllocator, PoolAllocator, ShmAllocator};
@@ -17,7 +20,9 @@ fn create<A: ShmAllocator, Shm: SharedMemory<A>>(
     alloc: Global,
     reg: &mut Registry<AllocatorDetails<A>>,
     name: &FileName,
-) -> Result<DynamicMemory<A, Shm>, SharedMemoryCreateError> {
+) -> Result<DynamicMemory<A, Shm>, SharedMemoryCreateError>
+    ensures has { IfOk result (HasAll reg.new) }
+{
     let config = Shm::Configuration::default();
     DynamicMemoryBuilder::new(name)
         .config(&config)
@@ -29,14 +34,16 @@ fn open<A: ShmAllocator, Shm: SharedMemory<A>>(
     alloc: Global,
     reg: &mut Registry<AllocatorDetails<A>>,
     name: &FileName,
-) -> Result<DynamicView<A, Shm>, SharedMemoryOpenError> {
+) -> Result<DynamicView<A, Shm>, SharedMemoryOpenError>
+    ensures has { IfOk result (HasView reg.new) }
+{
     let config = Shm::Configuration::default();
     DynamicViewBuilder::new(name)
         .config(&config)
         .open(alloc, reg, AccessMode::Read)
 }
 
-/// A name is taken by one memory, whose two segments stay.
+/// A name is taken by one memory, whose two segments stay, until that closes.
 fn a_taken_name_is_refused<A: ShmAllocator, Shm: SharedMemory<A>>(
     rt: &impl Abort,
     alloc: Global,
@@ -48,6 +55,20 @@ fn a_taken_name_is_refused<A: ShmAllocator, Shm: SharedMemory<A>>(
     let second = create::<A, Shm>(alloc, &mut reg, &name);
     assert!(rt; matches!(second.err(), Some(SharedMemoryCreateError::AlreadyExists)));
     assert!(rt; reg.len() == 2);
+    Ok(())
+}
+
+/// A name is free again once its memory has closed.
+fn a_name_is_free_again<A: ShmAllocator, Shm: SharedMemory<A>>(
+    rt: &impl Abort,
+    alloc: Global,
+) -> Result<(), Fail> {
+    let name = FileName::new(b"myMem").ok_or("a file name")?;
+    let mut reg = Registry::new(alloc);
+    create::<A, Shm>(alloc, &mut reg, &name)?.close(&mut reg);
+    assert!(rt; reg.len() == 0);
+    let again = create::<A, Shm>(alloc, &mut reg, &name);
+    assert!(rt; again.is_ok());
     Ok(())
 }
 
@@ -78,7 +99,7 @@ fn a_long_name_is_refused<A: ShmAllocator, Shm: SharedMemory<A>>(
     Ok(())
 }
 
-/// A view opens what was created, and maps nothing yet. What is there stays.
+/// A view opens what was created, and maps nothing yet. What it opened stays until it closes.
 fn a_view_opens_a_memory<A: ShmAllocator, Shm: SharedMemory<A>>(
     rt: &impl Abort,
     alloc: Global,
@@ -89,11 +110,12 @@ fn a_view_opens_a_memory<A: ShmAllocator, Shm: SharedMemory<A>>(
     let view = open::<A, Shm>(alloc, &mut reg, &name)?;
     assert!(rt; memory.number_of_active_segments() == 1);
     assert!(rt; view.number_of_active_segments() == 0);
+    view.close(&mut reg);
     assert!(rt; reg.len() == 2);
     Ok(())
 }
 
-/// A memory that isn't there isn't opened, and neither is one whose name is too long.
+/// A memory that isn't there, or isn't there any more, isn't opened, and neither is one whose name is too long.
 fn an_absent_memory_is_not_opened<A: ShmAllocator, Shm: SharedMemory<A>>(
     rt: &impl Abort,
     alloc: Global,
@@ -105,6 +127,9 @@ fn an_absent_memory_is_not_opened<A: ShmAllocator, Shm: SharedMemory<A>>(
     assert!(rt; matches!(absent.err(), Some(SharedMemoryOpenError::DoesNotExist)));
     let too_long = open::<A, Shm>(alloc, &mut reg, &long_name);
     assert!(rt; matches!(too_long.err(), Some(SharedMemoryOpenError::PathTooLong)));
+    create::<A, Shm>(alloc, &mut reg, &name)?.close(&mut reg);
+    let closed = open::<A, Shm>(alloc, &mut reg, &name);
+    assert!(rt; matches!(closed.err(), Some(SharedMemoryOpenError::DoesNotExist)));
     Ok(())
 }
 
@@ -114,6 +139,7 @@ fn each_rule<A: ShmAllocator, Shm: SharedMemory<A>>(
     alloc: Global,
 ) -> Result<(), Fail> {
     a_taken_name_is_refused::<A, Shm>(rt, alloc)?;
+    a_name_is_free_again::<A, Shm>(rt, alloc)?;
     a_long_name_is_refused::<A, Shm>(rt, alloc)?;
     a_view_opens_a_memory::<A, Shm>(rt, alloc)?;
     an_absent_memory_is_not_opened::<A, Shm>(rt, alloc)

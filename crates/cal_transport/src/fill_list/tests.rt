@@ -76,7 +76,12 @@ fn run_fill_list(alloc: Global, buffer: usize, borrow: usize) -> Result<Replies<
     requires small { buffer + borrow < 2 ^ 31 }
 {
     let commands = fill_commands(alloc, buffer, borrow)?;
-    match run_transport(alloc, &settings_of(buffer, borrow), commands.as_slice()) {
+    match run_transport(
+        alloc,
+        &settings_of(buffer, borrow),
+        commands.as_slice(),
+        &mut None,
+    ) {
         Ok(replies) => Ok(replies),
         Err(_) => Err("the run is whole".into()),
     }

@@ -1,124 +1,101 @@
 //! The receiver's commands: receive, read and release.
 
-ghost use Rattle.std.specs.Prelude.{◌≡◌};
-ghost use Rattle.cal_transport.specs.Rules.{receive_rule, read_rule, release_rule, ReceiveDoes, ReadDoes, ReleaseDoes};
+ghost use Rattle.cal_transport.specs.CommandsDo.{ReceiveDoes, ReleaseDoes};
+ghost use Rattle.cal_transport.specs.Room.{TakesRoomOfOne};
 
-use crate::chunk_record::{ChunkRecord, find_record, record_at};
 use crate::reply::{Refusal, Slot};
 use crate::transport::Transport;
-use crate::transport::sender::exceeds_bucket;
-use cal_alloc::PointerOffset;
+use crate::transport::chunk_entry::find_entry;
+use crate::transport::pointing::{is_lent, lend, mark_of, pointed_entry, pointer_at, unlend};
+use crate::transport::sharing::{arrive, go_back};
+use cal_connection::{ChannelId, ZeroCopyReceiver};
 
 impl Transport {
-    /// Borrows the oldest queued chunk, if there is one.
-    pub(crate) fn receive(&mut self, channel: usize) -> Result<Option<Slot>, Refusal>
+    /// Borrows the oldest queued chunk of a channel, if there is one.
+    pub fn receive(&mut self, channel: usize) -> Result<Option<Slot>, Refusal>
         ensures step { ReceiveDoes self.old channel result self.new }
-        ensures room { self.new.room ≡ self.old.room }
+        ensures room { TakesRoomOfOne self.old self.new }
     {
-        if let Some(refusal) = self.receive_refusal(channel) {
-            return Err(refusal);
+        if channel >= self.settings.channels {
+            return Err(Refusal::OutsideConnection);
         }
-        let Some(value) = self.submissions.pop() else {
-            return Ok(None);
+        let channel_id = ChannelId::new(channel);
+        let answer = self.receiver.receive(&mut self.connection_registry, channel_id);
+        let taken = match answer {
+            Ok(taken) => taken,
+            Err(_) => return Err(Refusal::ReceiveWouldExceedMaxBorrowValue),
         };
-        let pointer = PointerOffset::from_value(value);
-        let bucket = self.pool.bucket_of(pointer);
-        let found = record_at(&self.records, &self.record_indices, bucket);
-        self.borrowed += 1;
-        self.records[found.index] = ChunkRecord {
-            borrowed: true,
-            ..found.entry
+        let pointer = match taken {
+            Some(pointer) => pointer,
+            None => return Ok(None),
         };
+        let found = pointed_entry(
+            &self.entries,
+            &self.owners,
+            &self.memory,
+            &self.memory_registry,
+            pointer,
+        );
+        arrive(
+            &self.memory,
+            &mut self.view,
+            &mut self.memory_registry,
+            pointer,
+        );
+        let mark = mark_of(
+            found.entry.segment,
+            self.settings.samples,
+            found.entry.bucket,
+        );
+        lend(&mut self.lent, channel, mark);
         Ok(Some(Slot {
             chunk: found.entry.name,
-            segment: 0,
+            segment: pointer.segment_id().value(),
             place: pointer.offset(),
         }))
     }
 
-    /// Why nothing may be received from a channel, if so.
-    fn receive_refusal(&self, channel: usize) -> Option<Refusal>
-        ensures rule { result ≡ receive_rule self.now channel }
-    {
-        if channel >= self.settings.channels {
-            Some(Refusal::OutsideConnection)
-        } else if self.borrowed >= self.settings.borrow {
-            Some(Refusal::ReceiveWouldExceedMaxBorrowValue)
-        } else {
-            None
-        }
-    }
-
-    /// The bytes of a borrowed chunk from a place on: the segment's own.
-    pub(crate) fn read(
-        &self,
-        channel: usize,
-        chunk: usize,
-        at: usize,
-        length: usize,
-    ) -> Result<&[u8], Refusal>
-        ensures step { ReadDoes self.now channel chunk at length result }
-    {
-        if channel >= self.settings.channels {
-            return Err(Refusal::OutsideConnection);
-        }
-        let Some(found) = find_record(&self.records, chunk) else {
-            return Err(Refusal::NotBorrowed);
-        };
-        if let Some(refusal) = self.read_refusal(found.entry, at, length) {
-            return Err(refusal);
-        }
-        let place = found.entry.bucket * self.pool.bucket_size() + at;
-        Ok(&self.memory[place..place + length])
-    }
-
-    /// Why a chunk of the channel can't be read so, if it can't.
-    fn read_refusal(&self, entry: ChunkRecord, at: usize, length: usize) -> Option<Refusal>
-        ensures rule { result ≡ read_rule self.now entry at length }
-    {
-        if !entry.borrowed {
-            Some(Refusal::NotBorrowed)
-        } else if exceeds_bucket(self.pool.bucket_size(), at, length) {
-            Some(Refusal::OutsideChunk)
-        } else {
-            None
-        }
-    }
-
-    /// Gives a borrowed chunk back.
-    pub(crate) fn release(&mut self, channel: usize, chunk: usize) -> Result<(), Refusal>
+    /// Gives a chunk that is borrowed from a channel back there.
+    pub fn release(&mut self, channel: usize, chunk: usize) -> Result<(), Refusal>
         ensures step { ReleaseDoes self.old channel chunk result self.new }
-        ensures room { self.new.room ≡ self.old.room }
+        ensures room { TakesRoomOfOne self.old self.new }
     {
         if channel >= self.settings.channels {
             return Err(Refusal::OutsideConnection);
         }
-        let Some(found) = find_record(&self.records, chunk) else {
+        let found = match find_entry(&self.entries, chunk) {
+            Some(found) => found,
+            None => return Err(Refusal::NotBorrowed),
+        };
+        if !is_lent(&self.lent, channel, found.entry, self.settings.samples) {
             return Err(Refusal::NotBorrowed);
-        };
-        if let Some(refusal) = self.release_refusal(found.entry) {
-            return Err(refusal);
         }
-        let pointer = self.pool.offset_of_bucket(found.entry.bucket);
-        self.completions.push(pointer.as_value());
-        self.borrowed -= 1;
-        self.records[found.index] = ChunkRecord {
-            borrowed: false,
-            ..found.entry
-        };
+        let pointer = pointer_at(
+            &self.memory,
+            &self.memory_registry,
+            found.entry.segment,
+            found.entry.bucket,
+        );
+        let channel_id = ChannelId::new(channel);
+        let answer = self
+            .receiver
+            .release(&mut self.connection_registry, pointer, channel_id);
+        match answer {
+            Ok(()) => {}
+            Err(_) => return Err(Refusal::RetrieveBufferFull),
+        }
+        go_back(
+            &self.memory,
+            &mut self.view,
+            &mut self.memory_registry,
+            pointer,
+        );
+        let mark = mark_of(
+            found.entry.segment,
+            self.settings.samples,
+            found.entry.bucket,
+        );
+        unlend(&mut self.lent, channel, mark);
         Ok(())
-    }
-
-    /// Why a chunk of the channel can't be given back, if it can't.
-    fn release_refusal(&self, entry: ChunkRecord) -> Option<Refusal>
-        ensures rule { result ≡ release_rule self.now entry }
-    {
-        if !entry.borrowed {
-            Some(Refusal::NotBorrowed)
-        } else if self.completions.is_full() {
-            Some(Refusal::RetrieveBufferFull)
-        } else {
-            None
-        }
     }
 }

@@ -7,18 +7,18 @@ returns-clause-done g c =
     EndsDue-done (map string_bytes c.args.words.now) (g.R.Source.state c.args.source.now)
     (g.R.Source.state c.run_and_print.new.source)
     (g.W.Sink.state c.args.sink.now) (g.W.Sink.state c.run_and_print.new.sink) c.run_and_print.result.status
-    c.run_and_print.result.replies.items c.run_and_print.ensures
+    c.run_and_print.result.replies.items c.run_and_print.result.end c.run_and_print.ensures
 
 pub returns-clause-written : goal.returns-clause-written
 returns-clause-written g c =
     EndsDue-written (map string_bytes c.args.words.now) (g.R.Source.state c.args.source.now)
     (g.R.Source.state c.run_and_print.new.source)
     (g.W.Sink.state c.args.sink.now) (g.W.Sink.state c.run_and_print.new.sink) c.run_and_print.result.status
-    c.run_and_print.result.replies.items c.run_and_print.ensures
+    c.run_and_print.result.replies.items c.run_and_print.result.end c.run_and_print.ensures
 
 pub returns-clause-exact : goal.returns-clause-exact
 returns-clause-exact g c =
     EndsDue-right (map string_bytes c.args.words.now) (g.R.Source.state c.args.source.now)
     (g.R.Source.state c.run_and_print.new.source)
     (g.W.Sink.state c.args.sink.now) (g.W.Sink.state c.run_and_print.new.sink) c.run_and_print.result.status
-    c.run_and_print.result.replies.items c.run_and_print.ensures
+    c.run_and_print.result.replies.items c.run_and_print.result.end c.run_and_print.ensures

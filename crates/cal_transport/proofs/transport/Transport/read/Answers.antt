@@ -1,91 +1,192 @@
-use Rattle.std.proofs.Common.{◌≡◌, ◌+◌, ◌-◌, ◌*◌, ◌<◌, take, drop, sym, ap, ◌∙◌, subst, arith}
-use Rattle.cal_transport.specs.ChunkRecord.{HasNoRecord, IsFound}
-use Rattle.cal_transport.specs.PartsOf.{parts_of}
-use Rattle.cal_transport.specs.Rules.{read_rule}
-use Rattle.cal_transport.proofs.Steps.{entry_within}
-use Rattle.cal_transport.proofs.Reading.{read_unnamed, read_refused, read_of, may_read}
+use Rattle.std.proofs.Common.{◌≡◌, ◌<◌, ◌≤◌, ◌∙◌, ◌*◌, ◌+◌, ◌-◌, ◌&&◌, nat_lt, length, take, drop, get_or, sym, ap, subst, arith}
+use Rattle.std.proofs.lemmas.Bool.{ltb-true, ltb-false}
+use Rattle.cal_queue.specs.UsedChunks.{contains, capacity_of, none_used}
+use Rattle.cal_transport.specs.declared.command.Command.TheVariants as command
+use Rattle.cal_transport.specs.declared.reply.Reply.TheVariants.{Shown, Refused}
+use Rattle.cal_transport.specs.declared.reply.Refusal.TheVariants as refusal
+use Rattle.cal_transport.specs.ChunkEntry.{AreRising, HasNoEntry, IsFound}
+use Rattle.cal_transport.specs.State.{core_of}
+use Rattle.cal_transport.specs.StateOf.{state_of}
+use Rattle.cal_transport.proofs.Standing.{unchanged}
+use Rattle.cal_transport.proofs.Finding.{entries_rise}
+use Rattle.cal_transport.proofs.ReadCode.{read_outside_does, read_unknown_does, read_unlent_does, read_held, read_place, read_mapped, read_payload, read_long, read_does, read_past_does}
+use Rattle.cal_transport.proofs.ReleaseCode.{marks_many, transit_mark}
 use Rattle.cal_transport.proofs.transport.Transport.read.Goals as goal
 
-pub returns-in_default : goal.returns-in_default
-returns-in_default c = record {
-  step = read_unnamed c.args.self.now c.args.channel c.args.chunk c.args.at c.args.length
-      (subst (λ p. c.args.channel < p.settings.channels) c.self.view_is
-      (let t : c.args.channel < c.self.inside.settings.channels = omega arith in t))
-      (subst (λ es. HasNoRecord es c.args.chunk) (c.deref.ensures.value ∙ ap (λ p. p.records) c.self.view_is)
-      c.in_default.ensures.found);
+pub returns-then-channel-self : goal.returns-then-channel-self
+returns-then-channel-self c = record {
+  step = unchanged c.self.inside c.self.invariant c.args.self.now c.self.view_is
+    (command.Read c.args.channel c.args.chunk c.args.at c.args.length) (Refused refusal.OutsideConnection) tt
+      (read_outside_does (state_of c.self.inside) c.self.invariant.linked c.args.channel c.args.chunk c.args.at
+      c.args.length c.if-channel-self.true);
 }
 
-pub returns-in-Some-read_refusal : goal.returns-in-Some-read_refusal
-returns-in-Some-read_refusal c = record {
-  step = read_refused c.args.self.now c.args.channel c.args.chunk c.args.at c.args.length c.in-Some.found
-      c.in-Some-read_refusal.refusal
-      (subst (λ p. c.args.channel < p.settings.channels) c.self.view_is
-      (let t : c.args.channel < c.self.inside.settings.channels = omega arith in t))
-      (subst (λ es. IsFound es c.args.chunk c.in-Some.found)
-      (c.deref.ensures.value ∙ ap (λ p. p.records) c.self.view_is) c.in-Some.ensures.found)
-      (sym c.in-Some-read_refusal.ensures.rule);
+pub find_entry-requires : goal.find_entry-requires
+find_entry-requires c = record {
+  rising = subst AreRising (sym c.deref.ensures.value)
+      (entries_rise (core_of (state_of c.self.inside)) c.self.invariant.ledger c.self.invariant.represents.place
+      c.self.invariant.represents.shows c.self.invariant.represents.sound.names);
 }
 
-pub overflow_mul-place : goal.overflow_mul-place
-overflow_mul-place c =
-    let within = entry_within (parts_of c.self.inside) c.self.invariant.0 c.args.chunk c.in-Some.found
-    c.self.invariant.1 (subst
-    (λ es. IsFound es c.args.chunk c.in-Some.found) c.deref.ensures.value c.in-Some.ensures.found) in
-    let may = may_read (parts_of c.self.inside) c.in-Some.found.entry c.args.at c.args.length
-    (sym (c.in_default-read_refusal.ensures.rule ∙ ap
-    (λ p. read_rule p c.in-Some.found.entry c.args.at c.args.length) (sym c.self.view_is))) in
-    let long = c.self.inside.memory.ok.0 in
-    rw c.bucket_size.ensures.value (omega arith)
+pub returns-in-None : goal.returns-in-None
+returns-in-None c = record {
+  step = unchanged c.self.inside c.self.invariant c.args.self.now c.self.view_is
+    (command.Read c.args.channel c.args.chunk c.args.at c.args.length) (Refused refusal.NotBorrowed) tt
+      (read_unknown_does (state_of c.self.inside) c.self.invariant.linked c.args.channel c.args.chunk c.args.at
+      c.args.length c.if-channel-self.false
+      (subst (λ es. HasNoEntry es c.args.chunk) c.deref.ensures.value c.in-None.ensures.found));
+}
 
-pub overflow_add-place : goal.overflow_add-place
-overflow_add-place c =
-    let within = entry_within (parts_of c.self.inside) c.self.invariant.0 c.args.chunk c.in-Some.found
-    c.self.invariant.1 (subst
-    (λ es. IsFound es c.args.chunk c.in-Some.found) c.deref.ensures.value c.in-Some.ensures.found) in
-    let may = may_read (parts_of c.self.inside) c.in-Some.found.entry c.args.at c.args.length
-    (sym (c.in_default-read_refusal.ensures.rule ∙ ap
-    (λ p. read_rule p c.in-Some.found.entry c.args.at c.args.length) (sym c.self.view_is))) in
-    let long = c.self.inside.memory.ok.0 in
-    rw c.bucket_size.ensures.value (omega arith)
+pub is_lent-requires-clause-channel : goal.is_lent-requires-clause-channel
+is_lent-requires-clause-channel c =
+    omega (arith, ap length c.deref-2.ensures.value, c.self.invariant.linked.lent, c.if-channel-self.false)
+
+pub is_lent-requires-clause-mark : goal.is_lent-requires-clause-mark
+is_lent-requires-clause-mark c =
+    let is = subst (λ es. IsFound es c.args.chunk c.in-Some.found) c.deref.ensures.value c.in-Some.ensures.found in
+    subst (λ us. 0 < c.in-Some.found.entry.transits → c.in-Some.found.entry.segment * c.self.inside.settings.samples
+    + c.in-Some.found.entry.bucket < capacity_of (get_or us c.args.channel (none_used 0))) (sym c.deref-2.ensures.value)
+    (λ some. subst (λ n. c.in-Some.found.entry.segment * c.self.inside.settings.samples
+    + c.in-Some.found.entry.bucket < n)
+    (sym (marks_many (state_of c.self.inside) c.self.invariant.linked c.args.channel c.if-channel-self.false
+    c.args.chunk
+    c.in-Some.found is c.self.invariant.ledger c.self.invariant.represents))
+    (transit_mark (state_of c.self.inside) c.self.invariant.linked c.args.channel c.if-channel-self.false c.args.chunk
+    c.in-Some.found is c.self.invariant.ledger c.self.invariant.represents some))
+
+pub is_lent-requires-clause-small : goal.is_lent-requires-clause-small
+is_lent-requires-clause-small c =
+    let is = subst (λ es. IsFound es c.args.chunk c.in-Some.found) c.deref.ensures.value c.in-Some.ensures.found in
+    let many = marks_many (state_of c.self.inside) c.self.invariant.linked c.args.channel c.if-channel-self.false
+    c.args.chunk
+    c.in-Some.found is c.self.invariant.ledger c.self.invariant.represents in
+    let few = c.self.invariant.linked.marks in
+    subst (λ us. capacity_of (get_or us c.args.channel (none_used 0)) ≤ 9223372036854775808)
+    (sym c.deref-2.ensures.value) (omega arith)
+
+pub returns-then-not-is_lent : goal.returns-then-not-is_lent
+returns-then-not-is_lent c =
+    let is = subst (λ es. IsFound es c.args.chunk c.in-Some.found) c.deref.ensures.value c.in-Some.ensures.found in
+    let told = subst (λ us. c.is_lent.result ≡ (nat_lt 0 c.in-Some.found.entry.transits
+    && contains (get_or us c.args.channel (none_used 0)) (c.in-Some.found.entry.segment * c.self.inside.settings.samples
+    + c.in-Some.found.entry.bucket))) c.deref-2.ensures.value c.is_lent.ensures.lent in
+    record {
+      step = unchanged c.self.inside c.self.invariant c.args.self.now c.self.view_is
+        (command.Read c.args.channel c.args.chunk c.args.at c.args.length) (Refused refusal.NotBorrowed) tt
+          (read_unlent_does (state_of c.self.inside) c.self.invariant.linked c.args.channel c.args.chunk c.args.at
+          c.args.length c.if-channel-self.false c.in-Some.found is (sym told ∙ c.if-not-is_lent.true));
+    }
+
+pub size_at-size-requires-clause-has : goal.size_at-size-requires-clause-has
+size_at-size-requires-clause-has c = c.self.invariant.linked.together.has_memory
+
+pub size_at-size-requires-clause-active : goal.size_at-size-requires-clause-active
+size_at-size-requires-clause-active c =
+    let is = subst (λ es. IsFound es c.args.chunk c.in-Some.found) c.deref.ensures.value c.in-Some.ensures.found in
+    let told = subst (λ us. c.is_lent.result ≡ (nat_lt 0 c.in-Some.found.entry.transits
+    && contains (get_or us c.args.channel (none_used 0)) (c.in-Some.found.entry.segment * c.self.inside.settings.samples
+    + c.in-Some.found.entry.bucket))) c.deref-2.ensures.value c.is_lent.ensures.lent in
+    let lent = sym told ∙ c.if-not-is_lent.false in
+    read_held (state_of c.self.inside) c.self.invariant.linked c.args.channel c.args.chunk
+    c.args.at c.args.length c.if-channel-self.false c.in-Some.found is lent
+    c.self.invariant.ledger c.self.invariant.represents
+
+pub returns-then-exceeds_bucket : goal.returns-then-exceeds_bucket
+returns-then-exceeds_bucket c =
+    let is = subst (λ es. IsFound es c.args.chunk c.in-Some.found) c.deref.ensures.value c.in-Some.ensures.found in
+    let told = subst (λ us. c.is_lent.result ≡ (nat_lt 0 c.in-Some.found.entry.transits
+    && contains (get_or us c.args.channel (none_used 0)) (c.in-Some.found.entry.segment * c.self.inside.settings.samples
+    + c.in-Some.found.entry.bucket))) c.deref-2.ensures.value c.is_lent.ensures.lent in
+    let lent = sym told ∙ c.if-not-is_lent.false in
+    record {
+      step = unchanged c.self.inside c.self.invariant c.args.self.now c.self.view_is
+        (command.Read c.args.channel c.args.chunk c.args.at c.args.length) (Refused refusal.OutsideChunk) tt
+          (read_past_does (state_of c.self.inside) c.self.invariant.linked c.args.channel c.args.chunk
+          c.args.at c.args.length c.if-channel-self.false c.in-Some.found is lent
+          c.size_at-size.result c.size_at-size.ensures.size
+          (ltb-true c.size_at-size.result (c.args.at + c.args.length)
+          (sym c.if-exceeds_bucket.ensures.passes)));
+    }
+
+pub pointer_at-pointer-requires-clause-has : goal.pointer_at-pointer-requires-clause-has
+pointer_at-pointer-requires-clause-has c = c.self.invariant.linked.together.has_memory
+
+pub pointer_at-pointer-requires-clause-place : goal.pointer_at-pointer-requires-clause-place
+pointer_at-pointer-requires-clause-place c =
+    let is = subst (λ es. IsFound es c.args.chunk c.in-Some.found) c.deref.ensures.value c.in-Some.ensures.found in
+    let told = subst (λ us. c.is_lent.result ≡ (nat_lt 0 c.in-Some.found.entry.transits
+    && contains (get_or us c.args.channel (none_used 0)) (c.in-Some.found.entry.segment * c.self.inside.settings.samples
+    + c.in-Some.found.entry.bucket))) c.deref-2.ensures.value c.is_lent.ensures.lent in
+    let lent = sym told ∙ c.if-not-is_lent.false in
+    read_place (state_of c.self.inside) c.self.invariant.linked c.args.channel c.args.chunk
+    c.args.at c.args.length c.if-channel-self.false c.in-Some.found is lent
+    c.self.invariant.ledger c.self.invariant.represents
+
+pub viewed_bytes-bytes-requires-clause-together : goal.viewed_bytes-bytes-requires-clause-together
+viewed_bytes-bytes-requires-clause-together c = c.self.invariant.linked.together
+
+pub viewed_bytes-bytes-requires-clause-mapped : goal.viewed_bytes-bytes-requires-clause-mapped
+viewed_bytes-bytes-requires-clause-mapped c =
+    let is = subst (λ es. IsFound es c.args.chunk c.in-Some.found) c.deref.ensures.value c.in-Some.ensures.found in
+    let told = subst (λ us. c.is_lent.result ≡ (nat_lt 0 c.in-Some.found.entry.transits
+    && contains (get_or us c.args.channel (none_used 0)) (c.in-Some.found.entry.segment * c.self.inside.settings.samples
+    + c.in-Some.found.entry.bucket))) c.deref-2.ensures.value c.is_lent.ensures.lent in
+    let lent = sym told ∙ c.if-not-is_lent.false in
+    read_mapped (state_of c.self.inside) c.self.invariant.linked c.args.channel c.args.chunk
+    c.args.at c.args.length c.if-channel-self.false c.in-Some.found is lent
+    c.pointer_at-pointer.result c.pointer_at-pointer.ensures.pointer
+    c.self.invariant.ledger c.self.invariant.represents
+
+pub viewed_bytes-bytes-requires-clause-within : goal.viewed_bytes-bytes-requires-clause-within
+viewed_bytes-bytes-requires-clause-within c =
+    let is = subst (λ es. IsFound es c.args.chunk c.in-Some.found) c.deref.ensures.value c.in-Some.ensures.found in
+    let told = subst (λ us. c.is_lent.result ≡ (nat_lt 0 c.in-Some.found.entry.transits
+    && contains (get_or us c.args.channel (none_used 0)) (c.in-Some.found.entry.segment * c.self.inside.settings.samples
+    + c.in-Some.found.entry.bucket))) c.deref-2.ensures.value c.is_lent.ensures.lent in
+    let lent = sym told ∙ c.if-not-is_lent.false in
+    read_payload (state_of c.self.inside) c.self.invariant.linked c.args.channel c.args.chunk
+    c.args.at c.args.length c.if-channel-self.false c.in-Some.found is lent
+    c.pointer_at-pointer.result c.pointer_at-pointer.ensures.pointer c.size_at-size.result c.size_at-size.ensures.size
+    c.self.invariant.ledger c.self.invariant.represents
 
 pub overflow_add-result : goal.overflow_add-result
 overflow_add-result c =
-    let within = entry_within (parts_of c.self.inside) c.self.invariant.0 c.args.chunk c.in-Some.found
-    c.self.invariant.1 (subst
-    (λ es. IsFound es c.args.chunk c.in-Some.found) c.deref.ensures.value c.in-Some.ensures.found) in
-    let may = may_read (parts_of c.self.inside) c.in-Some.found.entry c.args.at c.args.length
-    (sym (c.in_default-read_refusal.ensures.rule ∙ ap
-    (λ p. read_rule p c.in-Some.found.entry c.args.at c.args.length) (sym c.self.view_is))) in
-    let long = c.self.inside.memory.ok.0 in
-    rw c.bucket_size.ensures.value (omega arith)
+    let within = ltb-false c.size_at-size.result (c.args.at + c.args.length) (sym c.if-exceeds_bucket.ensures.passes) in
+    omega arith
+
+pub slice_bounds-result-count : goal.slice_bounds-result-count
+slice_bounds-result-count c = omega arith
 
 pub slice_bounds-result-end : goal.slice_bounds-result-end
 slice_bounds-result-end c =
-    let within = entry_within (parts_of c.self.inside) c.self.invariant.0 c.args.chunk c.in-Some.found
-    c.self.invariant.1 (subst
-    (λ es. IsFound es c.args.chunk c.in-Some.found) c.deref.ensures.value c.in-Some.ensures.found) in
-    let may = may_read (parts_of c.self.inside) c.in-Some.found.entry c.args.at c.args.length
-    (sym (c.in_default-read_refusal.ensures.rule ∙ ap
-    (λ p. read_rule p c.in-Some.found.entry c.args.at c.args.length) (sym c.self.view_is))) in
-    let long = c.self.inside.memory.ok.0 in
-    rw c.bucket_size.ensures.value (omega arith)
+    let is = subst (λ es. IsFound es c.args.chunk c.in-Some.found) c.deref.ensures.value c.in-Some.ensures.found in
+    let told = subst (λ us. c.is_lent.result ≡ (nat_lt 0 c.in-Some.found.entry.transits
+    && contains (get_or us c.args.channel (none_used 0)) (c.in-Some.found.entry.segment * c.self.inside.settings.samples
+    + c.in-Some.found.entry.bucket))) c.deref-2.ensures.value c.is_lent.ensures.lent in
+    let lent = sym told ∙ c.if-not-is_lent.false in
+    let within = ltb-false c.size_at-size.result (c.args.at + c.args.length) (sym c.if-exceeds_bucket.ensures.passes) in
+    let long = read_long (state_of c.self.inside) c.self.invariant.linked c.args.channel c.args.chunk
+    c.args.at c.args.length c.if-channel-self.false c.in-Some.found is lent
+    c.pointer_at-pointer.result c.pointer_at-pointer.ensures.pointer c.size_at-size.result
+    c.size_at-size.ensures.size c.viewed_bytes-bytes.result.now c.viewed_bytes-bytes.ensures.bytes
+    c.self.invariant.ledger c.self.invariant.represents in
+    omega arith
 
 pub returns : goal.returns
-returns c = record {
-  step = read_of c.args.self.now c.args.channel c.args.chunk c.args.at c.args.length c.in-Some.found
-      _ (subst (λ p. c.args.channel < p.settings.channels) c.self.view_is
-      (let t : c.args.channel < c.self.inside.settings.channels = omega arith in t))
-      (subst (λ es. IsFound es c.args.chunk c.in-Some.found)
-      (c.deref.ensures.value ∙ ap (λ p. p.records) c.self.view_is) c.in-Some.ensures.found)
-      c.in_default-read_refusal.ensures.rule
-      (let long : c.in-Some.found.entry.bucket * c.bucket_size.result + c.args.at + c.args.length -
-      (c.in-Some.found.entry.bucket * c.bucket_size.result + c.args.at) ≡ c.args.length = omega arith in
-      ap (λ n. take n (drop (c.in-Some.found.entry.bucket * c.bucket_size.result + c.args.at) c.deref-2.result.now))
-      long
-      ∙ ap (λ n. take c.args.length (drop (c.in-Some.found.entry.bucket * n + c.args.at) c.deref-2.result.now))
-      c.bucket_size.ensures.value
-      ∙ ap (λ m. take c.args.length
-      (drop (c.in-Some.found.entry.bucket * c.self.inside.pool.buckets.size + c.args.at) m)) c.deref-2.ensures.value
-      ∙ ap (λ p. take c.args.length (drop (c.in-Some.found.entry.bucket * p.pool.buckets.size + c.args.at) p.memory))
-      c.self.view_is);
-}
+returns c =
+    let is = subst (λ es. IsFound es c.args.chunk c.in-Some.found) c.deref.ensures.value c.in-Some.ensures.found in
+    let told = subst (λ us. c.is_lent.result ≡ (nat_lt 0 c.in-Some.found.entry.transits
+    && contains (get_or us c.args.channel (none_used 0)) (c.in-Some.found.entry.segment * c.self.inside.settings.samples
+    + c.in-Some.found.entry.bucket))) c.deref-2.ensures.value c.is_lent.ensures.lent in
+    let lent = sym told ∙ c.if-not-is_lent.false in
+    record {
+      step = unchanged c.self.inside c.self.invariant c.args.self.now c.self.view_is
+        (command.Read c.args.channel c.args.chunk c.args.at c.args.length)
+        (Shown (take (c.args.at + c.args.length - c.args.at) (drop c.args.at c.viewed_bytes-bytes.result.now))) tt
+          (read_does (state_of c.self.inside) c.self.invariant.linked c.args.channel c.args.chunk
+          c.args.at c.args.length c.if-channel-self.false c.in-Some.found is lent
+          c.pointer_at-pointer.result c.pointer_at-pointer.ensures.pointer c.size_at-size.result
+          c.size_at-size.ensures.size c.viewed_bytes-bytes.result.now c.viewed_bytes-bytes.ensures.bytes
+          (ltb-false c.size_at-size.result (c.args.at + c.args.length)
+          (sym c.if-exceeds_bucket.ensures.passes)));
+    }
