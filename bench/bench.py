@@ -6,8 +6,10 @@
 PROGRAM is crates/cal_program/out/cal_program where it isn't given. Scripts of about 16 MB are run: in the first, one chunk
 after another goes the whole way; in the second, several chunks are under way at once, in an order that a fixed seed
 chooses; in the third each chunk goes over two channels; in the fourth each send on a full channel takes the oldest chunk
-back; in the fifth the sizes vary, and memory grows to the largest. No command is refused. For each script the fastest run
-counts; its time has the start of the program, the reading of the script and the writing of the replies in it.
+back; in the fifth the sizes vary, and memory grows to the largest. Two shorter scripts follow: one fills each of 256
+segments with 256 chunks and lets them go again, and one takes 100,000 commands over 2^20 channels. No command is refused.
+For each script the fastest run counts; its time has the start of the program, the reading of the script and the writing
+of the replies in it.
 """
 import argparse
 import collections
@@ -29,6 +31,10 @@ SETTINGS = f"transport {SIZE} 8 {BUCKETS} static {BUFFER} {BORROW} off {BUCKETS}
 TWO_CHANNELS = f"transport {SIZE} 8 {BUCKETS} static {BUFFER} {BORROW} off {BUCKETS} 1 2"
 OVERFLOWING = f"transport {SIZE} 8 {BUCKETS} static {BUFFER} {BORROW} on {BUCKETS} 1 1"
 GROWING = f"transport 16 8 {BUCKETS} best {BUFFER} {BORROW} off {2 * BUCKETS} 255 1"
+SEGMENTS, CHUNKS = 256, 256
+FILLING = f"transport 8 8 {CHUNKS} best 1 1 off {CHUNKS} {SEGMENTS} 1"
+CHANNELS, OVER_CHANNELS = 2**20, 100_000
+MANY_CHANNELS = f"transport {SIZE} 8 1 static 1 1 off 1 1 {CHANNELS}"
 
 
 def in_turn():
@@ -87,6 +93,30 @@ def growing(seed):
         yield "reclaim 0"
         yield f"discard {place}"
         place += 8
+
+
+def filling():
+    """Chunks that fill each segment, larger ones from segment to segment, and then let all of them go."""
+    for segment in range(SEGMENTS):
+        for _ in range(CHUNKS):
+            yield f"loan {8 * (segment + 1)} 8"
+    for name in range(1, SEGMENTS * CHUNKS + 1):
+        yield f"discard {name}"
+
+
+def over_channels():
+    """The commands of one chunk after another, each of which goes over a channel far from the last one's."""
+    channel = 0
+    for place in range(1, OVER_CHANNELS, 8):
+        yield f"loan {SIZE} 8"
+        yield f"write {place} 0 7b00ff01"
+        yield f"send {channel} {place}"
+        yield f"receive {channel}"
+        yield f"read {channel} {place} 0 4"
+        yield f"release {channel} {place}"
+        yield f"reclaim {channel}"
+        yield f"discard {place}"
+        channel = (channel + 393_241) % CHANNELS
 
 
 class Mixed:
@@ -233,6 +263,8 @@ def main():
         measure("over two channels", TWO_CHANNELS, on_two_channels(), arguments, folder)
         measure("with overflow", OVERFLOWING, overflowing(), arguments, folder)
         measure("of sizes that vary", GROWING, growing(1), arguments, folder)
+        measure("through 256 segments", FILLING, filling(), arguments, folder)
+        measure("over 2^20 channels", MANY_CHANNELS, over_channels(), arguments, folder)
 
 
 if __name__ == "__main__":
