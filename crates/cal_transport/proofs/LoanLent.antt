@@ -1,4 +1,5 @@
--- A bucket is handed out, cleared and entered: a state of the transport that shows a ledger shows it with the new chunk.
+-- A bucket is handed out, cleared and entered: a state of the transport that shows a ledger shows it with the new
+-- chunk.
 use Rattle.std.proofs.Common.{ℕ, ◌+◌, ◌-◌, ◌*◌, ◌/◌, ◌%◌, ◌<◌, ◌≤◌, ◌≡◌, ◌≢◌, Bool, true, false, not, ◌&&◌, nat_eq, nat_lt, [], ◌∷◌, ◌++◌, length, set, get_or, replicate, Some, refl, sym, ap, ◌∙◌, subst, arith}
 use Rattle.std.proofs.Math.Nat.{mul-div_cancel, mul-mod_left}
 use Rattle.std.proofs.lemmas.Bool.{true≢false, and_from, eq-eqb, lt-ltb}

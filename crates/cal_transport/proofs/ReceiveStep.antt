@@ -103,7 +103,8 @@ receives_none p p' l place k s shows tracks within room empty same =
 
 -- ---- a chunk is queued
 
--- the oldest left the queue of a channel and is borrowed; its offset has arrived at the view, and its bucket is lent out
+-- the oldest left the queue of a channel and is borrowed; its offset has arrived at the view, and its bucket is lent
+-- out
 pub record Receives (p p' : Core) (k segment bucket : ℕ) : Type 0 where
   pub settings : p'.settings ≡ p.settings
   pub current : p'.current ≡ p.current

@@ -1,5 +1,5 @@
--- A send, from what the calls on the port and the tables say: the state in which the chunk has joined the queue, which is
--- the one after a send with room, and from which the oldest leaves by overflow.
+-- A send, from what the calls on the port and the tables say: the state in which the chunk has joined the queue,
+-- which is the one after a send with room, and from which the oldest leaves by overflow.
 use Rattle.std.proofs.Common.{ℕ, ◌+◌, ◌*◌, ◌^◌, ◌<◌, ◌≤◌, ◌≡◌, Bool, true, false, nat_eq, nat_le, [], ◌∷◌, ◌++◌, length, set, get_or, Some, None, refl, sym, ap, ◌∙◌, subst, arith}
 use Rattle.std.proofs.Math.Nat.{mul-le-mul_left}
 use Rattle.std.proofs.lemmas.Bool.{eqb-true, eqb-false}

@@ -11,8 +11,8 @@ abbrev pub while_counted : Option ℕ → Option ℕ
 while_counted None = None
 while_counted (Some count) = if nat_lt 0 count then Some count else None
 
--- an offset of a segment arrives: one more is registered there. Where the segment isn't mapped it is opened, and the one
--- that was opened last before is unmapped where no offset is registered in it.
+-- an offset of a segment arrives: one more is registered there. Where the segment isn't mapped it is opened, and the
+-- one that was opened last before is unmapped where no offset is registered in it.
 abbrev pub opened_after_arrival : Option ℕ → (ℕ → Option ℕ) → ℕ → Option ℕ
 opened_after_arrival last mapped segment = if is_some (mapped segment) then last else Some segment
 

@@ -1,6 +1,6 @@
-//! Whole scripts, with the lines that they owe. `;` stands for a line's end. A due line that ends in `*` holds for every
-//! place, since a loan may take any free bucket. Where a place is given and another bucket was free as well, it is the
-//! one that today's pool chooses.
+//! Whole scripts, with the lines that they owe. `;` stands for a line's end. A due line that ends in `*` holds for
+//! every place, since a loan may take any free bucket. Where a place is given and another bucket was free as well, it is
+//! the one that today's pool chooses.
 
 use crate::run_program::run_program;
 use crate::status::Status;
@@ -35,8 +35,8 @@ fn slot_of(text: &str, chunk: usize) -> Option<(usize, usize)> {
     None
 }
 
-/// Runs a script, and asserts that it ends well, that each reply is as it is due, and that these are told as in transit,
-/// each a channel and a chunk, by channel, segment and place.
+/// Runs a script, and asserts that it ends well, that each reply is as it is due, and that these are told as in
+/// transit, each a channel and a chunk, by channel, segment and place.
 pub(super) fn assert_lines(
     rt: &(impl Abort + AllocGlobal),
     script: &str,

@@ -106,8 +106,8 @@ fn a_chunk_on_two_channels(rt: HostRuntime) -> Result<(), Fail> {
 fn segments_that_are_mapped(rt: HostRuntime) -> Result<(), Fail> {
     assert_lines(
         &rt,
-        "transport 8 8 1 best 2 2 off 4 4 2;loan 8 8;loan 16 8;loan 24 8;send 1 1;send 0 3;send 0 2;receive 0;receive 1;\
-         release 1 1;count",
+        "transport 8 8 1 best 2 2 off 4 4 2;loan 8 8;loan 16 8;loan 24 8;send 1 1;send 0 3;send 0 2;receive 0;\
+         receive 1;release 1 1;count",
         "loaned 1 0:0;loaned 2 1:*;loaned 3 2:*;sent;sent;sent;received 3 2:*;received 1 0:0;released;\
          counted 3 2 2 24 2",
         &[(0, 2), (0, 3), (1, 1)],

@@ -23,8 +23,8 @@ pub(crate) fn enter_channel(entries: &mut Vec<ChunkEntry>, found: Found)
     };
 }
 
-/// The chunk of an entry isn't in transit any more on one channel where it was. Whether its bucket is kept: the chunk is
-/// loaned, or another channel has it.
+/// The chunk of an entry isn't in transit any more on one channel where it was. Whether its bucket is kept: the chunk
+/// is loaned, or another channel has it.
 pub(crate) fn leave_channel(entries: &mut Vec<ChunkEntry>, found: Found) -> bool
     requires index { found.index < vec_len entries.old }
     requires transit { 0 < found.entry.transits }
