@@ -152,7 +152,7 @@ module _ (t : TransportState) (linked : IsLinked t) (l : Ledger) (r : Represents
   current_active =
       let one = some in
       and_from (nat_lt (current l) (length l.segments))
-        (nat_eq (current l) (current l) || not (is_unused l (current l)))
+      (nat_eq (current l) (current l) || not (is_unused l (current l)))
       (lt-ltb (current l) (length l.segments) (omega arith))
       (or_left (nat_eq (current l) (current l)) (not (is_unused l (current l))) (eq-eqb (current l) (current l) refl))
 
@@ -164,7 +164,7 @@ module _ (t : TransportState) (linked : IsLinked t) (l : Ledger) (r : Represents
       let seen = is_seen t.memory_registry t.memory (current l) had.shown had.has in
       subst fact (ap (λ (q : Pool). q.buckets) seen.pool ∙ had.shows.layout)
       (of_shown t.memory_registry t.memory.slots (current l)
-        (λ (segment : Segment Pool). fact segment.allocator.buckets)
+      (λ (segment : Segment Pool). fact segment.allocator.buckets)
       seen.segment
       (subst (λ n. OfSegment t.memory_registry t.memory.slots n (λ (segment : Segment Pool). fact
       segment.allocator.buckets)) r.shows.current holds)
@@ -174,7 +174,7 @@ made : ℕ → ℕ → ℕ → ℕ → ℕ → Count
 made a m c s b = record { active = a; mapped = m; current = c; size = s; buckets = b }
 
 counted : (t : TransportState) → IsLinked t → (count : Count) → IsCounted t.memory_registry t.memory t.view count →
-  (l : Ledger) → Represents t l →
+    (l : Ledger) → Represents t l →
     count ≡ count_of l
 unfolding made
 counted t linked count is l r =
@@ -194,7 +194,7 @@ placeless l reply None a b = refl
 placeless l reply (Some why) a b = refl
 
 pub count_does : (t : TransportState) → IsLinked t → (count : Count) →
-  IsCounted t.memory_registry t.memory t.view count →
+    IsCounted t.memory_registry t.memory t.view count →
     DoesAnywhere t command.Count (Counted count) t
 count_does t linked count is place l r =
     stands t l command.Count (Counted count) r.place place r.sound (placeless l (Counted count))

@@ -323,7 +323,7 @@ module _ (p : Core) (l l' : Ledger) (s : IsSettled l) (s' : IsSettled l') (shows
     table = table;
     in_transit = tracks.in_transit
         ∙ total_pairs (λ (c : Chunk). transits l.histories c.name)
-          (λ (c : Chunk). transits l'.histories c.name) l.chunks
+        (λ (c : Chunk). transits l'.histories c.name) l.chunks
         l'.chunks (long p l l' s s' shows shows')
         (λ i x y there stands. ap (λ (e : ChunkEntry). e.transits)
         (same_entry p l l' s s' shows shows' i x y there stands));

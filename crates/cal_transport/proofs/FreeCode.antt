@@ -120,7 +120,7 @@ pub gives : (t : TransportState) (kept : Bool) (segment bucket : ℕ) (registry 
     (memory : MemoryState) → FreesUnless kept t.view t.memory_registry t.memory segment bucket registry memory →
     (p' : Core) → p'.current ≡ memory.current →
     ((other : ℕ) → p'.active other ≡
-      (core_of (record t { memory_registry = registry; memory = memory })).active other) →
+    (core_of (record t { memory_registry = registry; memory = memory })).active other) →
     GivesBack (core_of t) p' kept segment bucket
 gives t kept segment bucket registry memory freed p' current active = record {
   current = current ∙ freed.current;

@@ -128,7 +128,7 @@ module _ {A C : Type 0} (rules : shm_allocator.Ghosts A C) where
         ∙ first_made
       where
         refusal_of : Option (SharedMemorySetupHint C) → Option (SharedMemorySetupHint C) →
-          Option SharedMemoryCreateError
+            Option SharedMemoryCreateError
         refusal_of = refusal_by rules nothing_registered plan
 
 -- ---- a pool's segments

@@ -117,14 +117,14 @@ module _ (t : TransportState) (new : IsNewState t) where
           marks = length-replicate t.settings.count false;
           chunks = refl;
           payload = at_least (length (replicate (payload (first_layout t.settings)) 0))
-            (payload (first_layout t.settings))
+              (payload (first_layout t.settings))
               (length-replicate (payload (first_layout t.settings)) 0);
         },
       )
   shows_active (suc n) =
       subst (ShowsActive l (suc n)) (sym (new.parts.segments.others (suc n) (λ e. absurd (omega (arith, e)))))
       (ap (λ b. b && (suc n == current l || not (is_unused l (suc n))))
-        (let past : nat_lt (suc n) 1 ≡ false = grind (arith, nat_tests) in past))
+      (let past : nat_lt (suc n) 1 ≡ false = grind (arith, nat_tests) in past))
 
   shows_channel : (k : ℕ) (history : ChannelHistory) → slice_get l.histories k ≡ Some history →
       ShowsChannel (core_of t) l k history

@@ -97,7 +97,7 @@ module _ (t : TransportState) (linked : IsLinked t) (k name : ℕ) (sample : Sam
 
   -- it isn't the chunk that is sent
   other_name : (l : Ledger) (r : Represents t l) →
-    (front l r).chunk.name ≢ (the t linked k name sample is l r).chunk.name
+      (front l r).chunk.name ≢ (the t linked k name sample is l r).chunk.name
   other_name l r same =
       let h = history_at t linked k name sample is l r in
       true≢false (sym (front l r).transit ∙ ap (is_in_transit h.history) same
@@ -284,7 +284,7 @@ module _ (t : TransportState) (linked : IsLinked t) (k name : ℕ) (sample : Sam
                 (index_is l r)
                 ∙ ap (λ (x : ChunkEntry). set middle.entries f.index (record x { transits = x.transits - 1 })) e
                 ∙ ap (λ n. set middle.entries f.index (record (entry_of l.histories f.chunk) { transits = n - 1 }))
-                  same;
+                same;
             other_tracks = λ other apart. record {
               lent = refl;
               transits = sym (get_or-set_other t.transits k other _ 0 apart);

@@ -327,7 +327,7 @@ module _ (t : TransportState) (linked : IsLinked t) (k : ℕ) (inside : k < t.se
               others = λ other apart. record { channel = others_are other apart; borrowed = refl };
               entries = entries_are
                   ∙ ap (λ n. set t.entries n (record found.entry { transits = found.entry.transits - 1 }))
-                    (index_is l r)
+                  (index_is l r)
                   ∙ ap (λ (x : ChunkEntry). set t.entries f.index (record x { transits = x.transits - 1 })) e;
               other_tracks = λ other apart. record {
                 lent = refl;

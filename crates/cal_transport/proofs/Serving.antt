@@ -26,12 +26,12 @@ IsMapped given answer mapped = MatchResult answer (λ x. IsOkAnd mapped (λ r. r
 module _ (old new : TransportState) (place : ℕ) (asked : Command) where
   pub write_served : (name at : ℕ) (bytes : List ℕ) (answer : Result (Unit {0}) Refusal) (reply : Reply) →
       asked ≡ command.Write name at bytes → WriteDoes old name at bytes answer new →
-        reply ≡ reply_at_end answer Written →
+      reply ≡ reply_at_end answer Written →
       Does old place asked reply new
   write_served name at bytes (Ok done) reply is step e = told_by old new place asked
-    (command.Write name at bytes) reply Written is e step
+      (command.Write name at bytes) reply Written is e step
   write_served name at bytes (Err why) reply is step e = told_by old new place asked
-    (command.Write name at bytes) reply (Refused why) is e step
+      (command.Write name at bytes) reply (Refused why) is e step
 
   pub send_served : (channel name : ℕ) (answer : Result (Option Slot) Refusal) (mapped : Result Reply Refusal)
       (reply : Reply) → asked ≡ command.Send channel name → SendDoes old channel name answer new →
@@ -53,12 +53,12 @@ module _ (old new : TransportState) (place : ℕ) (asked : Command) where
 
   pub release_served : (channel name : ℕ) (answer : Result (Unit {0}) Refusal) (reply : Reply) →
       asked ≡ command.Release channel name → ReleaseDoes old channel name answer new →
-        reply ≡ reply_at_end answer Released →
+      reply ≡ reply_at_end answer Released →
       Does old place asked reply new
   release_served channel name (Ok done) reply is step e = told_by old new place asked
-    (command.Release channel name) reply Released is e step
+      (command.Release channel name) reply Released is e step
   release_served channel name (Err why) reply is step e = told_by old new place asked
-    (command.Release channel name) reply (Refused why) is e step
+      (command.Release channel name) reply (Refused why) is e step
 
   pub reclaim_served : (channel : ℕ) (answer : Result (Option Slot) Refusal) (mapped : Result Reply Refusal)
       (reply : Reply) → asked ≡ command.Reclaim channel → ReclaimDoes old channel answer new →
@@ -73,6 +73,6 @@ module _ (old new : TransportState) (place : ℕ) (asked : Command) where
       asked ≡ command.Discard name → DiscardDoes old name answer new → reply ≡ reply_at_end answer Discarded →
       Does old place asked reply new
   discard_served name (Ok done) reply is step e = told_by old new place asked
-    (command.Discard name) reply Discarded is e step
+      (command.Discard name) reply Discarded is e step
   discard_served name (Err why) reply is step e = told_by old new place asked
-    (command.Discard name) reply (Refused why) is e step
+      (command.Discard name) reply (Refused why) is e step

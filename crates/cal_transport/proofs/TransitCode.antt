@@ -133,7 +133,7 @@ module _ (t : TransportState) (k segment : ℕ) (inside : k < t.settings.channel
         (leads (core_of t) l one.index one.chunk r.shows r.tracks one.stands one.alive))
 
     size_there : (bucket size : ℕ) → (used : in_use t k segment bucket ≡ true) →
-      OfSegment t.memory_registry t.memory.slots segment
+        OfSegment t.memory_registry t.memory.slots segment
         (λ (held : Segment Pool). size ≡ held.allocator.buckets.size) →
         size ≡ (place bucket used).place.segment.allocator.buckets.size
     size_there bucket size used is =
@@ -145,7 +145,7 @@ module _ (t : TransportState) (k segment : ℕ) (inside : k < t.settings.channel
         (λ (held : Segment Pool). size ≡ held.allocator.buckets.size)) (sym one.in_segment) is) at.place.there
 
     pub place_fits : (bucket size : ℕ) → in_use t k segment bucket ≡ true →
-      OfSegment t.memory_registry t.memory.slots segment
+        OfSegment t.memory_registry t.memory.slots segment
         (λ (held : Segment Pool). size ≡ held.allocator.buckets.size) → bucket * size < max_memory_size
     place_fits bucket size used is =
         let one = told bucket used in
@@ -219,13 +219,13 @@ module _ (t : TransportState) (k segment : ℕ) (inside : k < t.settings.channel
         (λ n above below. untold n (none n above)))
       where
         outside : (n : ℕ) → (layout_at l segment).count ≤ n → (b : Bool) → in_use t k segment n ≡ b →
-          in_use t k segment n ≡ false
+            in_use t k segment n ≡ false
         outside n past false e = e
         outside n past true e = let below = inside_segment n e in absurd (omega arith)
 
     -- there is room for one more line
     pub has_room : (start bucket spare spare_before : ℕ) (before now : List Reply) →
-      IsFirst (in_use t k segment) start bucket →
+        IsFirst (in_use t k segment) start bucket →
         now ≡ before ++ lines_below l k segment start → spare + length now ≡ spare_before + length before →
         length (lines_in l k segment) ≤ spare_before → 0 < spare
     has_room start bucket spare spare_before before now first is kept few =

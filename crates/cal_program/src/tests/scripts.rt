@@ -1,6 +1,6 @@
 //! Whole scripts, with the lines that they owe. `;` stands for a line's end. A due line that ends in `*` holds for
-//! every place, since a loan may take any free bucket. Where a place is given and another bucket was free as well, it is
-//! the one that today's pool chooses.
+//! every place, since a loan may take any free bucket. Where a place is given and another bucket was free as well, it
+//! is the one that today's pool chooses.
 
 use crate::run_program::run_program;
 use crate::status::Status;

@@ -20,7 +20,9 @@ impl Transport {
             return Err(Refusal::OutsideConnection);
         }
         let channel_id = ChannelId::new(channel);
-        let answer = self.receiver.receive(&mut self.connection_registry, channel_id);
+        let answer = self
+            .receiver
+            .receive(&mut self.connection_registry, channel_id);
         let taken = match answer {
             Ok(taken) => taken,
             Err(_) => return Err(Refusal::ReceiveWouldExceedMaxBorrowValue),

@@ -23,7 +23,7 @@ find_entry-requires c = record {
 pub returns-in-None-clause-step : goal.returns-in-None-clause-step
 returns-in-None-clause-step c =
     unchanged c.self.inside c.self.invariant c.args.self.now c.self.view_is (command.Discard c.args.chunk)
-      (Refused refusal.NotLoaned) tt
+    (Refused refusal.NotLoaned) tt
     (discard_unknown_does (state_of c.self.inside) c.self.invariant.linked c.args.chunk
     (subst (λ es. HasNoEntry es c.args.chunk) c.deref.ensures.value c.in-None.ensures.found))
 
@@ -31,7 +31,7 @@ pub returns-then-not-found-clause-step : goal.returns-then-not-found-clause-step
 returns-then-not-found-clause-step c =
     let is = subst (λ es. IsFound es c.args.chunk c.in-Some.found) c.deref.ensures.value c.in-Some.ensures.found in
     unchanged c.self.inside c.self.invariant c.args.self.now c.self.view_is (command.Discard c.args.chunk)
-      (Refused refusal.NotLoaned) tt
+    (Refused refusal.NotLoaned) tt
     (discard_unloaned_does (state_of c.self.inside) c.self.invariant.linked c.args.chunk c.in-Some.found is
     (not_true c.in-Some.found.entry.loaned c.if-not-found.true))
 

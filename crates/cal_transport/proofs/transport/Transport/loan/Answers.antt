@@ -42,7 +42,7 @@ pub returns-in-Err-clause-step : goal.returns-in-Err-clause-step
 returns-in-Err-clause-step c =
     let t = state_of c.self.inside in
     outside_loan c.self.inside c.self.invariant c.args.self.now c.self.view_is c.args.chunk c.args.size
-      c.args.alignment (Err answer.NoMemory)
+    c.args.alignment (Err answer.NoMemory)
     c.args.self.now c.requires.below
     (subst (λ s. LoanDoes s c.args.chunk c.args.size c.args.alignment (Err answer.NoMemory) s) c.self.view_is
     (table_runs_out t c.args.chunk
@@ -107,7 +107,7 @@ returns-in-Err-answer-clause-step c =
     c.allocate-answer.new.reg c.allocate-answer.new.self c.allocate-answer.ensures.unchanged
     c.allocate-answer.ensures.same in
     outside_loan c.self.inside c.self.invariant c.args.self.now c.self.view_is c.args.chunk c.args.size
-      c.args.alignment (Err c.loan_error.result)
+    c.args.alignment (Err c.loan_error.result)
     (record (state_of c.self.inside) {
       memory_registry = c.allocate-answer.new.reg;
       memory = c.allocate-answer.new.self;
@@ -393,7 +393,7 @@ invariant_of-self-2 c =
     let owners = map vec_items c.set_owner.new.owners.items in
     let does = loaned_does t linked c.args.chunk c.args.size c.args.alignment h.below pointer reg memory c.in-Ok.table
     h.between size size_is c.put_zeros.new.reg c.put_zeros.ensures.put spare tables entries entries_are owners
-      owners_are
+    owners_are
     h.none c.slot_at.result (c.slot_at.ensures.slot ∙ ap (λ (e : ChunkEntry). slot_of_entry e pointer) entry) in
     record {
       ledger = after_step c.self.invariant.ledger c.args.chunk (command.Loan c.args.size c.args.alignment)
@@ -451,10 +451,10 @@ returns-clause-step c =
     let owners = map vec_items c.set_owner.new.owners.items in
     let does = loaned_does t linked c.args.chunk c.args.size c.args.alignment h.below pointer reg memory c.in-Ok.table
     h.between size size_is c.put_zeros.new.reg c.put_zeros.ensures.put spare tables entries entries_are owners
-      owners_are
+    owners_are
     h.none c.slot_at.result (c.slot_at.ensures.slot ∙ ap (λ (e : ChunkEntry). slot_of_entry e pointer) entry) in
     outside_loan c.self.inside c.self.invariant c.args.self.now c.self.view_is c.args.chunk c.args.size
-      c.args.alignment (Ok c.slot_at.result)
+    c.args.alignment (Ok c.slot_at.result)
     (record (state_of c.self.inside) {
       memory_registry = c.put_zeros.new.reg;
       memory = c.allocate-answer.new.self;

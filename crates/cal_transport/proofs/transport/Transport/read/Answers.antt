@@ -16,7 +16,7 @@ use Rattle.cal_transport.proofs.transport.Transport.read.Goals as goal
 pub returns-then-channel-self : goal.returns-then-channel-self
 returns-then-channel-self c = record {
   step = unchanged c.self.inside c.self.invariant c.args.self.now c.self.view_is
-    (command.Read c.args.channel c.args.chunk c.args.at c.args.length) (Refused refusal.OutsideConnection) tt
+      (command.Read c.args.channel c.args.chunk c.args.at c.args.length) (Refused refusal.OutsideConnection) tt
       (read_outside_does (state_of c.self.inside) c.self.invariant.linked c.args.channel c.args.chunk c.args.at
       c.args.length c.if-channel-self.true);
 }
@@ -31,7 +31,7 @@ find_entry-requires c = record {
 pub returns-in-None : goal.returns-in-None
 returns-in-None c = record {
   step = unchanged c.self.inside c.self.invariant c.args.self.now c.self.view_is
-    (command.Read c.args.channel c.args.chunk c.args.at c.args.length) (Refused refusal.NotBorrowed) tt
+      (command.Read c.args.channel c.args.chunk c.args.at c.args.length) (Refused refusal.NotBorrowed) tt
       (read_unknown_does (state_of c.self.inside) c.self.invariant.linked c.args.channel c.args.chunk c.args.at
       c.args.length c.if-channel-self.false
       (subst (λ es. HasNoEntry es c.args.chunk) c.deref.ensures.value c.in-None.ensures.found));
@@ -72,7 +72,7 @@ returns-then-not-is_lent c =
     + c.in-Some.found.entry.bucket))) c.deref-2.ensures.value c.is_lent.ensures.lent in
     record {
       step = unchanged c.self.inside c.self.invariant c.args.self.now c.self.view_is
-        (command.Read c.args.channel c.args.chunk c.args.at c.args.length) (Refused refusal.NotBorrowed) tt
+          (command.Read c.args.channel c.args.chunk c.args.at c.args.length) (Refused refusal.NotBorrowed) tt
           (read_unlent_does (state_of c.self.inside) c.self.invariant.linked c.args.channel c.args.chunk c.args.at
           c.args.length c.if-channel-self.false c.in-Some.found is (sym told ∙ c.if-not-is_lent.true));
     }
@@ -100,7 +100,7 @@ returns-then-exceeds_bucket c =
     let lent = sym told ∙ c.if-not-is_lent.false in
     record {
       step = unchanged c.self.inside c.self.invariant c.args.self.now c.self.view_is
-        (command.Read c.args.channel c.args.chunk c.args.at c.args.length) (Refused refusal.OutsideChunk) tt
+          (command.Read c.args.channel c.args.chunk c.args.at c.args.length) (Refused refusal.OutsideChunk) tt
           (read_past_does (state_of c.self.inside) c.self.invariant.linked c.args.channel c.args.chunk
           c.args.at c.args.length c.if-channel-self.false c.in-Some.found is lent
           c.size_at-size.result c.size_at-size.ensures.size
@@ -181,8 +181,8 @@ returns c =
     let lent = sym told ∙ c.if-not-is_lent.false in
     record {
       step = unchanged c.self.inside c.self.invariant c.args.self.now c.self.view_is
-        (command.Read c.args.channel c.args.chunk c.args.at c.args.length)
-        (Shown (take (c.args.at + c.args.length - c.args.at) (drop c.args.at c.viewed_bytes-bytes.result.now))) tt
+          (command.Read c.args.channel c.args.chunk c.args.at c.args.length)
+          (Shown (take (c.args.at + c.args.length - c.args.at) (drop c.args.at c.viewed_bytes-bytes.result.now))) tt
           (read_does (state_of c.self.inside) c.self.invariant.linked c.args.channel c.args.chunk
           c.args.at c.args.length c.if-channel-self.false c.in-Some.found is lent
           c.pointer_at-pointer.result c.pointer_at-pointer.ensures.pointer c.size_at-size.result

@@ -30,7 +30,7 @@ call_at t n k same a b is registry receiver call =
 pub returns-then-channel-self-clause-step : goal.returns-then-channel-self-clause-step
 returns-then-channel-self-clause-step c =
     unchanged c.self.inside c.self.invariant c.args.self.now c.self.view_is (command.Receive c.args.channel)
-      (Refused refusal.OutsideConnection) tt
+    (Refused refusal.OutsideConnection) tt
     (receive_outside_does (state_of c.self.inside) c.args.channel c.if-channel-self.true)
 
 pub returns-then-channel-self-clause-room : goal.returns-then-channel-self-clause-room

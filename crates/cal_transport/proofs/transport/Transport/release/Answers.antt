@@ -27,7 +27,7 @@ call_at t n k same pointer a b is registry receiver call =
 pub returns-then-channel-self-clause-step : goal.returns-then-channel-self-clause-step
 returns-then-channel-self-clause-step c =
     unchanged c.self.inside c.self.invariant c.args.self.now c.self.view_is
-      (command.Release c.args.channel c.args.chunk) (Refused refusal.OutsideConnection) tt
+    (command.Release c.args.channel c.args.chunk) (Refused refusal.OutsideConnection) tt
     (release_outside_does (state_of c.self.inside) c.args.channel c.args.chunk c.if-channel-self.true)
 
 pub returns-then-channel-self-clause-room : goal.returns-then-channel-self-clause-room
@@ -42,7 +42,7 @@ find_entry-requires c = record {
 
 pub returns-in-None-clause-step : goal.returns-in-None-clause-step
 returns-in-None-clause-step c = unchanged c.self.inside c.self.invariant c.args.self.now c.self.view_is
-  (command.Release c.args.channel c.args.chunk) (Refused refusal.NotBorrowed) tt
+    (command.Release c.args.channel c.args.chunk) (Refused refusal.NotBorrowed) tt
     (release_unknown_does (state_of c.self.inside) c.self.invariant.linked c.args.channel c.if-channel-self.false
     c.args.chunk
     (subst (λ es. HasNoEntry es c.args.chunk) c.deref.ensures.value c.in-None.ensures.found))
@@ -80,7 +80,7 @@ returns-then-not-is_lent-clause-step c =
     && contains (get_or us c.args.channel (none_used 0)) (c.in-Some.found.entry.segment * c.self.inside.settings.samples
     + c.in-Some.found.entry.bucket))) c.deref-2.ensures.value c.is_lent.ensures.lent in
     unchanged c.self.inside c.self.invariant c.args.self.now c.self.view_is
-      (command.Release c.args.channel c.args.chunk) (Refused refusal.NotBorrowed) tt
+    (command.Release c.args.channel c.args.chunk) (Refused refusal.NotBorrowed) tt
     (release_unlent_does (state_of c.self.inside) c.self.invariant.linked c.args.channel
     c.if-channel-self.false c.args.chunk
     c.in-Some.found is

@@ -33,7 +33,7 @@ find_entry-requires c = record {
 pub returns-in-None : goal.returns-in-None
 returns-in-None c = record {
   sample = unchanged c.self.inside c.self.invariant c.args.self.now c.self.view_is
-    (command.Send c.args.channel c.args.chunk) (Refused refusal.NotLoaned) tt
+      (command.Send c.args.channel c.args.chunk) (Refused refusal.NotLoaned) tt
       (send_unknown_does (state_of c.self.inside) c.args.channel c.args.chunk
       (subst (λ es. HasNoEntry es c.args.chunk) c.deref.ensures.value c.in-None.ensures.found));
 }
@@ -43,7 +43,7 @@ returns-then-not-found c =
     let is = subst (λ es. IsFound es c.args.chunk c.in-Some.found) c.deref.ensures.value c.in-Some.ensures.found in
     record {
       sample = unchanged c.self.inside c.self.invariant c.args.self.now c.self.view_is
-        (command.Send c.args.channel c.args.chunk) (Refused refusal.NotLoaned) tt
+          (command.Send c.args.channel c.args.chunk) (Refused refusal.NotLoaned) tt
           (send_unloaned_does (state_of c.self.inside) c.args.channel c.args.chunk c.in-Some.found is
           (not_true c.in-Some.found.entry.loaned c.if-not-found.true));
     }
@@ -53,7 +53,7 @@ returns-then-channel-self c =
     let is = subst (λ es. IsFound es c.args.chunk c.in-Some.found) c.deref.ensures.value c.in-Some.ensures.found in
     record {
       sample = unchanged c.self.inside c.self.invariant c.args.self.now c.self.view_is
-        (command.Send c.args.channel c.args.chunk) (Refused refusal.OutsideConnection) tt
+          (command.Send c.args.channel c.args.chunk) (Refused refusal.OutsideConnection) tt
           (send_no_channel_does (state_of c.self.inside) c.args.channel c.args.chunk c.in-Some.found is
           (not_false c.in-Some.found.entry.loaned c.if-not-found.false) c.if-channel-self.true);
     }
@@ -63,7 +63,7 @@ returns-then-not-is_within c =
     let is = subst (λ es. IsFound es c.args.chunk c.in-Some.found) c.deref.ensures.value c.in-Some.ensures.found in
     record {
       sample = unchanged c.self.inside c.self.invariant c.args.self.now c.self.view_is
-        (command.Send c.args.channel c.args.chunk) (Refused refusal.OutsideConnection) tt
+          (command.Send c.args.channel c.args.chunk) (Refused refusal.OutsideConnection) tt
           (send_unnamable_does (state_of c.self.inside) c.args.channel c.args.chunk c.in-Some.found is
           (not_false c.in-Some.found.entry.loaned c.if-not-found.false) (sym c.is_within.ensures.within ∙
           c.if-not-is_within.true));
@@ -114,7 +114,7 @@ returns-then-is_in_use c =
     ∙ sym c.is_in_use.ensures.value ∙ c.if-is_in_use.true in
     record {
       sample = unchanged c.self.inside c.self.invariant c.args.self.now c.self.view_is
-        (command.Send c.args.channel c.args.chunk) (Refused refusal.AlreadyInTransit) tt
+          (command.Send c.args.channel c.args.chunk) (Refused refusal.AlreadyInTransit) tt
           (send_again_does (state_of c.self.inside) c.args.channel c.args.chunk c.in-Some.found is
           (not_false c.in-Some.found.entry.loaned c.if-not-found.false) c.self.invariant.linked
           c.if-channel-self.false both.0 both.1

@@ -142,7 +142,7 @@ loop-bucket-preserved c =
           (subst (λ u. Represents u c.self.invariant.ledger) c.self.view_is c.self.invariant.represents))
           c.loop-bucket.invariant.total (c.requires.room c.self.invariant.ledger
           (subst (λ u. Represents u c.self.invariant.ledger) c.self.view_is c.self.invariant.represents)) in omega
-            arith);
+          arith);
       within = (
           let below = subst (λ (u : TransportState). c.in-Some.bucket < u.settings.samples) c.self.view_is
           (inside_samples t c.args.channel c.args.segment inside c.self.invariant.ledger c.self.invariant.represents

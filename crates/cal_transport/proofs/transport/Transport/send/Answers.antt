@@ -52,9 +52,9 @@ try_send-answer-requires-clause-sendable c =
     c.in_ok-sample.sample.pointer c.in_ok-sample.sample.size) (sym c.new.ensures.value)
     (record {
       within = send_within (state_of c.self.inside) c.args.channel c.args.chunk c.in_ok-sample.sample.found is.found
-        is.loaned
+          is.loaned
           c.self.invariant.linked is.channel is.segment is.bucket c.in_ok-sample.sample.pointer
-            c.in_ok-sample.sample.size
+          c.in_ok-sample.sample.size
           is.pointer is.size
           c.self.invariant.ledger c.self.invariant.represents;
       unused = is.unused;
@@ -106,7 +106,7 @@ returns-in-Err-clause-step c =
     (subst (λ t. DoesAnywhere (state_of c.self.inside) (command.Send c.args.channel c.args.chunk)
     (Refused refusal.ReceiveBufferFull) t) (sym same)
     (send_full_does (state_of c.self.inside) c.self.invariant.linked c.args.channel c.args.chunk
-      c.in_ok-sample.sample is
+    c.in_ok-sample.sample is
     c.in-Err.field-0 c.try_send-answer.new.reg c.try_send-answer.new.self call))
 
 pub returns-in-Err-clause-room : goal.returns-in-Err-clause-room
@@ -125,7 +125,7 @@ enter_channel-requires-clause-index c =
     let is = subst (λ t. IsSample t c.args.channel c.args.chunk c.in_ok-sample.sample) (sym c.self.view_is)
     c.in_ok-sample.ensures.sample in
     let within = slice_get_within c.self.inside.entries.items c.in_ok-sample.sample.found.index
-        c.in_ok-sample.sample.found.entry
+    c.in_ok-sample.sample.found.entry
     is.found.0 in
     omega (arith, c.self.inside.entries.ok.0)
 
@@ -141,7 +141,7 @@ count_more-requires-clause-small c =
     let is = subst (λ t. IsSample t c.args.channel c.args.chunk c.in_ok-sample.sample) (sym c.self.view_is)
     c.in_ok-sample.ensures.sample in
     channel_counted (state_of c.self.inside) c.self.invariant.linked c.args.channel c.args.chunk
-      c.in_ok-sample.sample is
+    c.in_ok-sample.sample is
     c.self.invariant.ledger c.self.invariant.represents
 
 pub overflow_add-self : goal.overflow_add-self
@@ -149,7 +149,7 @@ overflow_add-self c =
     let is = subst (λ t. IsSample t c.args.channel c.args.chunk c.in_ok-sample.sample) (sym c.self.view_is)
     c.in_ok-sample.ensures.sample in
     let few = all_counted (state_of c.self.inside) c.self.invariant.linked c.args.channel c.args.chunk
-        c.in_ok-sample.sample
+    c.in_ok-sample.sample
     is c.self.invariant.ledger c.self.invariant.represents in
     omega arith
 
@@ -166,7 +166,7 @@ invariant_of-self-in-None c =
       sender_is = c.try_send-answer.ensures.port;
     }) in
     let does = sent_does (state_of c.self.inside) c.self.invariant.linked c.args.channel c.args.chunk
-        c.in_ok-sample.sample is
+    c.in_ok-sample.sample is
     c.try_send-answer.new.reg c.try_send-answer.new.self call c.enter_channel.new.entries.items
     c.enter_channel.ensures.written
     c.count_more.new.transits.items c.count_more.ensures.counted
@@ -176,7 +176,7 @@ invariant_of-self-in-None c =
       ledger = after_step c.self.invariant.ledger 0 (command.Send c.args.channel c.args.chunk) (Sent None);
       represents = does.1;
       linked = sent_linked (state_of c.self.inside) c.self.invariant.linked c.args.channel c.args.chunk
-        c.in_ok-sample.sample
+          c.in_ok-sample.sample
           is
           c.try_send-answer.new.reg c.try_send-answer.new.self call c.enter_channel.new.entries.items
           c.enter_channel.ensures.written
@@ -253,7 +253,7 @@ take_place-kept-requires-clause-joining c =
     let is = subst (λ t. IsSample t c.args.channel c.args.chunk c.in_ok-sample.sample) (sym c.self.view_is)
     c.in_ok-sample.ensures.sample in
     let within = slice_get_within c.self.inside.entries.items c.in_ok-sample.sample.found.index
-        c.in_ok-sample.sample.found.entry
+    c.in_ok-sample.sample.found.entry
     is.found.0 in
     omega (arith, c.self.inside.entries.ok.0)
 
@@ -311,7 +311,7 @@ take_place-kept-requires-clause-transit c =
     (c.pointed_entry-leaving.result.index ≡ p.index) × (c.pointed_entry-leaving.result.entry ≡ p.entry))
     c.deref.ensures.value c.pointed_entry-leaving.ensures.found) in
     leaving_transit (state_of c.self.inside) c.self.invariant.linked c.args.channel c.args.chunk
-      c.in_ok-sample.sample is
+    c.in_ok-sample.sample is
     c.in-Some.oldest c.try_send-answer.new.reg c.try_send-answer.new.self call c.pointed_entry-leaving.result found
     c.self.invariant.ledger c.self.invariant.represents
 
@@ -373,7 +373,7 @@ invariant_of-self-2 c =
     (segment_of c.in-Some.oldest) (offset_of c.in-Some.oldest / segment.allocator.buckets.size)
     c.free_unless.new.reg c.free_unless.new.memory) c.take_place-kept.ensures.kept c.free_unless.ensures.freed in
     let does = over_does (state_of c.self.inside) c.self.invariant.linked c.args.channel c.args.chunk
-        c.in_ok-sample.sample is
+    c.in_ok-sample.sample is
     c.in-Some.oldest c.try_send-answer.new.reg c.try_send-answer.new.self call c.pointed_entry-leaving.result found
     c.free_unless.new.reg c.free_unless.new.memory freed
     c.take_place-kept.new.entries.items c.take_place-kept.ensures.written
@@ -388,7 +388,7 @@ invariant_of-self-2 c =
           })));
       represents = does.1;
       linked = over_linked (state_of c.self.inside) c.self.invariant.linked c.args.channel c.args.chunk
-        c.in_ok-sample.sample
+          c.in_ok-sample.sample
           is
           c.in-Some.oldest c.try_send-answer.new.reg c.try_send-answer.new.self call c.pointed_entry-leaving.result
           found
@@ -424,7 +424,7 @@ returns-clause-step c =
     (segment_of c.in-Some.oldest) (offset_of c.in-Some.oldest / segment.allocator.buckets.size)
     c.free_unless.new.reg c.free_unless.new.memory) c.take_place-kept.ensures.kept c.free_unless.ensures.freed in
     let does = over_does (state_of c.self.inside) c.self.invariant.linked c.args.channel c.args.chunk
-        c.in_ok-sample.sample is
+    c.in_ok-sample.sample is
     c.in-Some.oldest c.try_send-answer.new.reg c.try_send-answer.new.self call c.pointed_entry-leaving.result found
     c.free_unless.new.reg c.free_unless.new.memory freed
     c.take_place-kept.new.entries.items c.take_place-kept.ensures.written

@@ -10,7 +10,7 @@ returns-in-Write-clause-served c =
     write_served c.args.self.now c.write.new.self c.args.place c.args.command.now c.in-Write.chunk c.in-Write.at
     c.in-Write.bytes c.write.result c.reply_at_end.result c.in-Write.is
     (subst (λ bytes. WriteDoes c.args.self.now c.in-Write.chunk c.in-Write.at bytes c.write.result c.write.new.self)
-      c.as_slice.ensures.value c.write.ensures.step)
+    c.as_slice.ensures.value c.write.ensures.step)
     c.reply_at_end.ensures.value
 
 pub returns-in-Send-clause-served : goal.returns-in-Send-clause-served

@@ -23,7 +23,7 @@ find_entry-requires c = record {
 pub returns-in-None-clause-step : goal.returns-in-None-clause-step
 returns-in-None-clause-step c =
     unchanged c.self.inside c.self.invariant c.args.self.now c.self.view_is
-      (command.Write c.args.chunk c.args.at c.args.bytes.now) (Refused refusal.NotLoaned) tt
+    (command.Write c.args.chunk c.args.at c.args.bytes.now) (Refused refusal.NotLoaned) tt
     (write_unknown_does (state_of c.self.inside) c.args.chunk c.args.at c.args.bytes.now
     (subst (λ es. HasNoEntry es c.args.chunk) c.deref.ensures.value c.in-None.ensures.found))
 
@@ -31,7 +31,7 @@ pub returns-then-not-found-clause-step : goal.returns-then-not-found-clause-step
 returns-then-not-found-clause-step c =
     let is = subst (λ es. IsFound es c.args.chunk c.in-Some.found) c.deref.ensures.value c.in-Some.ensures.found in
     unchanged c.self.inside c.self.invariant c.args.self.now c.self.view_is
-      (command.Write c.args.chunk c.args.at c.args.bytes.now) (Refused refusal.NotLoaned) tt
+    (command.Write c.args.chunk c.args.at c.args.bytes.now) (Refused refusal.NotLoaned) tt
     (write_ended_does (state_of c.self.inside) c.args.chunk c.args.at c.args.bytes.now c.in-Some.found is
     (not_true c.in-Some.found.entry.loaned c.if-not-found.true))
 
@@ -40,7 +40,7 @@ returns-then-found-clause-step c =
     let is = subst (λ es. IsFound es c.args.chunk c.in-Some.found) c.deref.ensures.value c.in-Some.ensures.found in
     let loaned = not_false c.in-Some.found.entry.loaned c.if-not-found.false in
     unchanged c.self.inside c.self.invariant c.args.self.now c.self.view_is
-      (command.Write c.args.chunk c.args.at c.args.bytes.now) (Refused refusal.WriteAfterSend) tt
+    (command.Write c.args.chunk c.args.at c.args.bytes.now) (Refused refusal.WriteAfterSend) tt
     (write_sent_does (state_of c.self.inside) c.args.chunk c.args.at c.args.bytes.now c.in-Some.found is loaned
     c.if-found.true)
 
@@ -61,7 +61,7 @@ returns-then-exceeds_bucket-clause-step c =
     let past = ltb-true c.size_at-size.result (c.args.at + length c.args.bytes.now)
     (sym c.if-exceeds_bucket.ensures.passes) in
     unchanged c.self.inside c.self.invariant c.args.self.now c.self.view_is
-      (command.Write c.args.chunk c.args.at c.args.bytes.now) (Refused refusal.OutsideChunk) tt
+    (command.Write c.args.chunk c.args.at c.args.bytes.now) (Refused refusal.OutsideChunk) tt
     (write_outside_does (state_of c.self.inside) c.args.chunk c.args.at c.args.bytes.now c.in-Some.found is loaned
     c.if-found.false c.size_at-size.result c.size_at-size.ensures.size past)
 
@@ -72,10 +72,10 @@ returns-then-is_empty-clause-step c =
     let within = ltb-false c.size_at-size.result (c.args.at + length c.args.bytes.now)
     (sym c.if-exceeds_bucket.ensures.passes) in
     unchanged c.self.inside c.self.invariant c.args.self.now c.self.view_is
-      (command.Write c.args.chunk c.args.at c.args.bytes.now) Written tt
+    (command.Write c.args.chunk c.args.at c.args.bytes.now) Written tt
     (write_none_does (state_of c.self.inside) c.args.chunk c.args.at c.args.bytes.now c.in-Some.found is loaned
     c.if-found.false c.size_at-size.result c.size_at-size.ensures.size within
-      (eqb-true (length c.args.bytes.now) 0 (sym c.if-is_empty.ensures)))
+    (eqb-true (length c.args.bytes.now) 0 (sym c.if-is_empty.ensures)))
 
 pub overflow_mul-place : goal.overflow_mul-place
 overflow_mul-place c =
@@ -159,7 +159,7 @@ returns-clause-step c =
     let within = ltb-false c.size_at-size.result (c.args.at + length c.args.bytes.now)
     (sym c.if-exceeds_bucket.ensures.passes) in
     outside c.self.inside c.self.invariant c.args.self.now c.self.view_is
-      (record (state_of c.self.inside) { memory_registry = c.put_bytes.new.reg })
+    (record (state_of c.self.inside) { memory_registry = c.put_bytes.new.reg })
     (command.Write c.args.chunk c.args.at c.args.bytes.now) Written tt
     (written_does (state_of c.self.inside) c.args.chunk c.args.at c.args.bytes.now c.in-Some.found is loaned
     c.if-found.false c.size_at-size.result c.size_at-size.ensures.size within

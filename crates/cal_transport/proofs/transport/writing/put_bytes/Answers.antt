@@ -14,7 +14,7 @@ returns c =
     let place = offset_of c.args.pointer in
     record {
       put = puts memory view reg c.write_bytes.new.reg number place c.args.bytes.now c.requires.together
-        c.requires.within
+          c.requires.within
           c.write_bytes.ensures.written
           (subst (λ contents. AreTogether contents memory view) (sym c.write_bytes.ensures.written)
           (c.a_memory_stays_with_its_view.ensures.written reg memory view (id_at_slot memory.slots number) place
