@@ -19,10 +19,8 @@ impl Transport {
         if channel >= self.settings.channels {
             return Err(Refusal::OutsideConnection);
         }
-        let channel_id = ChannelId::new(channel);
-        let answer = self
-            .receiver
-            .receive(&mut self.connection_registry, channel_id);
+        let id = ChannelId::new(channel);
+        let answer = self.receiver.receive(&mut self.connection_registry, id);
         let taken = match answer {
             Ok(taken) => taken,
             Err(_) => return Err(Refusal::ReceiveWouldExceedMaxBorrowValue),
@@ -78,10 +76,10 @@ impl Transport {
             found.entry.segment,
             found.entry.bucket,
         );
-        let channel_id = ChannelId::new(channel);
+        let id = ChannelId::new(channel);
         let answer = self
             .receiver
-            .release(&mut self.connection_registry, pointer, channel_id);
+            .release(&mut self.connection_registry, pointer, id);
         match answer {
             Ok(()) => {}
             Err(_) => return Err(Refusal::RetrieveBufferFull),

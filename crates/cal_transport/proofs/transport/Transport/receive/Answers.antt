@@ -38,8 +38,8 @@ returns-then-channel-self-clause-room c = makes_none c.args.self.now c.args.self
 
 pub invariant_of-self : goal.invariant_of-self
 invariant_of-self c =
-    let call = call_at (state_of c.self.inside) c.new-channel_id.result
-    c.args.channel c.new-channel_id.ensures.value c.receive-answer.result (Err c.in-Err.field-0) c.in-Err.is
+    let call = call_at (state_of c.self.inside) c.new-id.result
+    c.args.channel c.new-id.ensures.value c.receive-answer.result (Err c.in-Err.field-0) c.in-Err.is
     c.receive-answer.new.reg
     c.receive-answer.new.self (record {
       answer_is = c.receive-answer.ensures.answer;
@@ -57,8 +57,8 @@ invariant_of-self c =
 
 pub returns-in-Err-clause-step : goal.returns-in-Err-clause-step
 returns-in-Err-clause-step c =
-    let call = call_at (state_of c.self.inside) c.new-channel_id.result
-    c.args.channel c.new-channel_id.ensures.value c.receive-answer.result (Err c.in-Err.field-0) c.in-Err.is
+    let call = call_at (state_of c.self.inside) c.new-id.result
+    c.args.channel c.new-id.ensures.value c.receive-answer.result (Err c.in-Err.field-0) c.in-Err.is
     c.receive-answer.new.reg
     c.receive-answer.new.self (record {
       answer_is = c.receive-answer.ensures.answer;
@@ -91,8 +91,8 @@ returns-in-Err-clause-room c =
 
 pub invariant_of-self-in-None : goal.invariant_of-self-in-None
 invariant_of-self-in-None c =
-    let call = call_at (state_of c.self.inside) c.new-channel_id.result
-    c.args.channel c.new-channel_id.ensures.value c.receive-answer.result (Ok None) (c.in-Ok.is ∙ ap Ok c.in-None.is)
+    let call = call_at (state_of c.self.inside) c.new-id.result
+    c.args.channel c.new-id.ensures.value c.receive-answer.result (Ok None) (c.in-Ok.is ∙ ap Ok c.in-None.is)
     c.receive-answer.new.reg
     c.receive-answer.new.self (record {
       answer_is = c.receive-answer.ensures.answer;
@@ -110,8 +110,8 @@ invariant_of-self-in-None c =
 
 pub returns-in-None-clause-step : goal.returns-in-None-clause-step
 returns-in-None-clause-step c =
-    let call = call_at (state_of c.self.inside) c.new-channel_id.result
-    c.args.channel c.new-channel_id.ensures.value c.receive-answer.result (Ok None) (c.in-Ok.is ∙ ap Ok c.in-None.is)
+    let call = call_at (state_of c.self.inside) c.new-id.result
+    c.args.channel c.new-id.ensures.value c.receive-answer.result (Ok None) (c.in-Ok.is ∙ ap Ok c.in-None.is)
     c.receive-answer.new.reg
     c.receive-answer.new.self (record {
       answer_is = c.receive-answer.ensures.answer;
@@ -142,8 +142,8 @@ returns-in-None-clause-room c =
 
 pub pointed_entry-found-requires-clause-points : goal.pointed_entry-found-requires-clause-points
 pointed_entry-found-requires-clause-points c =
-    let call = call_at (state_of c.self.inside) c.new-channel_id.result
-    c.args.channel c.new-channel_id.ensures.value c.receive-answer.result (Ok (Some c.in-Some.pointer))
+    let call = call_at (state_of c.self.inside) c.new-id.result
+    c.args.channel c.new-id.ensures.value c.receive-answer.result (Ok (Some c.in-Some.pointer))
     (c.in-Ok.is ∙ ap Ok c.in-Some.is) c.receive-answer.new.reg
     c.receive-answer.new.self (record {
       answer_is = c.receive-answer.ensures.answer;
@@ -160,8 +160,8 @@ pointed_entry-found-requires-clause-points c =
 
 pub arrive-requires-clause-active : goal.arrive-requires-clause-active
 arrive-requires-clause-active c =
-    let call = call_at (state_of c.self.inside) c.new-channel_id.result
-    c.args.channel c.new-channel_id.ensures.value c.receive-answer.result (Ok (Some c.in-Some.pointer))
+    let call = call_at (state_of c.self.inside) c.new-id.result
+    c.args.channel c.new-id.ensures.value c.receive-answer.result (Ok (Some c.in-Some.pointer))
     (c.in-Ok.is ∙ ap Ok c.in-Some.is) c.receive-answer.new.reg
     c.receive-answer.new.self (record {
       answer_is = c.receive-answer.ensures.answer;
@@ -174,8 +174,8 @@ arrive-requires-clause-active c =
 
 pub arrive-requires-clause-room : goal.arrive-requires-clause-room
 arrive-requires-clause-room c =
-    let call = call_at (state_of c.self.inside) c.new-channel_id.result
-    c.args.channel c.new-channel_id.ensures.value c.receive-answer.result (Ok (Some c.in-Some.pointer))
+    let call = call_at (state_of c.self.inside) c.new-id.result
+    c.args.channel c.new-id.ensures.value c.receive-answer.result (Ok (Some c.in-Some.pointer))
     (c.in-Ok.is ∙ ap Ok c.in-Some.is) c.receive-answer.new.reg
     c.receive-answer.new.self (record {
       answer_is = c.receive-answer.ensures.answer;
@@ -188,8 +188,8 @@ arrive-requires-clause-room c =
 
 pub mark_of-mark-requires : goal.mark_of-mark-requires
 mark_of-mark-requires c =
-    let call = call_at (state_of c.self.inside) c.new-channel_id.result
-    c.args.channel c.new-channel_id.ensures.value c.receive-answer.result (Ok (Some c.in-Some.pointer))
+    let call = call_at (state_of c.self.inside) c.new-id.result
+    c.args.channel c.new-id.ensures.value c.receive-answer.result (Ok (Some c.in-Some.pointer))
     (c.in-Ok.is ∙ ap Ok c.in-Some.is) c.receive-answer.new.reg
     c.receive-answer.new.self (record {
       answer_is = c.receive-answer.ensures.answer;
@@ -217,8 +217,8 @@ mark_of-mark-requires c =
 
 pub lend-requires-clause-mark : goal.lend-requires-clause-mark
 lend-requires-clause-mark c =
-    let call = call_at (state_of c.self.inside) c.new-channel_id.result
-    c.args.channel c.new-channel_id.ensures.value c.receive-answer.result (Ok (Some c.in-Some.pointer))
+    let call = call_at (state_of c.self.inside) c.new-id.result
+    c.args.channel c.new-id.ensures.value c.receive-answer.result (Ok (Some c.in-Some.pointer))
     (c.in-Ok.is ∙ ap Ok c.in-Some.is) c.receive-answer.new.reg
     c.receive-answer.new.self (record {
       answer_is = c.receive-answer.ensures.answer;
@@ -250,8 +250,8 @@ lend-requires-clause-mark c =
 
 pub invariant_of-self-2 : goal.invariant_of-self-2
 invariant_of-self-2 c =
-    let call = call_at (state_of c.self.inside) c.new-channel_id.result
-    c.args.channel c.new-channel_id.ensures.value c.receive-answer.result (Ok (Some c.in-Some.pointer))
+    let call = call_at (state_of c.self.inside) c.new-id.result
+    c.args.channel c.new-id.ensures.value c.receive-answer.result (Ok (Some c.in-Some.pointer))
     (c.in-Ok.is ∙ ap Ok c.in-Some.is) c.receive-answer.new.reg
     c.receive-answer.new.self (record {
       answer_is = c.receive-answer.ensures.answer;
@@ -293,8 +293,8 @@ invariant_of-self-2 c =
 
 pub returns-clause-step : goal.returns-clause-step
 returns-clause-step c =
-    let call = call_at (state_of c.self.inside) c.new-channel_id.result
-    c.args.channel c.new-channel_id.ensures.value c.receive-answer.result (Ok (Some c.in-Some.pointer))
+    let call = call_at (state_of c.self.inside) c.new-id.result
+    c.args.channel c.new-id.ensures.value c.receive-answer.result (Ok (Some c.in-Some.pointer))
     (c.in-Ok.is ∙ ap Ok c.in-Some.is) c.receive-answer.new.reg
     c.receive-answer.new.self (record {
       answer_is = c.receive-answer.ensures.answer;

@@ -106,7 +106,7 @@ release-answer-requires-clause-borrowed c =
     && contains (get_or us c.args.channel (none_used 0)) (c.in-Some.found.entry.segment * c.self.inside.settings.samples
     + c.in-Some.found.entry.bucket))) c.deref-2.ensures.value c.is_lent.ensures.lent in
     let lent = sym told ∙ c.if-not-is_lent.false in
-    subst (λ n. 0 < count_at c.self.inside.receiver n) (sym c.new-channel_id.ensures.value)
+    subst (λ n. 0 < count_at c.self.inside.receiver n) (sym c.new-id.ensures.value)
     (counts_it (state_of c.self.inside) c.self.invariant.linked c.args.channel c.if-channel-self.false c.args.chunk
     c.in-Some.found is lent c.self.invariant.ledger c.self.invariant.represents)
 
@@ -117,7 +117,7 @@ invariant_of-self c =
     && contains (get_or us c.args.channel (none_used 0)) (c.in-Some.found.entry.segment * c.self.inside.settings.samples
     + c.in-Some.found.entry.bucket))) c.deref-2.ensures.value c.is_lent.ensures.lent in
     let lent = sym told ∙ c.if-not-is_lent.false in
-    let call = call_at (state_of c.self.inside) c.new-channel_id.result c.args.channel c.new-channel_id.ensures.value
+    let call = call_at (state_of c.self.inside) c.new-id.result c.args.channel c.new-id.ensures.value
     c.pointer_at-pointer.result c.release-answer.result (Err c.in-Err.field-0) c.in-Err.is c.release-answer.new.reg
     c.release-answer.new.self (record {
       answer_is = c.release-answer.ensures.answer;
@@ -141,7 +141,7 @@ returns-in-Err-clause-step c =
     && contains (get_or us c.args.channel (none_used 0)) (c.in-Some.found.entry.segment * c.self.inside.settings.samples
     + c.in-Some.found.entry.bucket))) c.deref-2.ensures.value c.is_lent.ensures.lent in
     let lent = sym told ∙ c.if-not-is_lent.false in
-    let call = call_at (state_of c.self.inside) c.new-channel_id.result c.args.channel c.new-channel_id.ensures.value
+    let call = call_at (state_of c.self.inside) c.new-id.result c.args.channel c.new-id.ensures.value
     c.pointer_at-pointer.result c.release-answer.result (Err c.in-Err.field-0) c.in-Err.is c.release-answer.new.reg
     c.release-answer.new.self (record {
       answer_is = c.release-answer.ensures.answer;
@@ -208,7 +208,7 @@ invariant_of-self-2 c =
     && contains (get_or us c.args.channel (none_used 0)) (c.in-Some.found.entry.segment * c.self.inside.settings.samples
     + c.in-Some.found.entry.bucket))) c.deref-2.ensures.value c.is_lent.ensures.lent in
     let lent = sym told ∙ c.if-not-is_lent.false in
-    let call = call_at (state_of c.self.inside) c.new-channel_id.result c.args.channel c.new-channel_id.ensures.value
+    let call = call_at (state_of c.self.inside) c.new-id.result c.args.channel c.new-id.ensures.value
     c.pointer_at-pointer.result c.release-answer.result (Ok c.in-Ok.field-0) c.in-Ok.is c.release-answer.new.reg
     c.release-answer.new.self (record {
       answer_is = c.release-answer.ensures.answer;
@@ -244,7 +244,7 @@ returns-clause-step c =
     && contains (get_or us c.args.channel (none_used 0)) (c.in-Some.found.entry.segment * c.self.inside.settings.samples
     + c.in-Some.found.entry.bucket))) c.deref-2.ensures.value c.is_lent.ensures.lent in
     let lent = sym told ∙ c.if-not-is_lent.false in
-    let call = call_at (state_of c.self.inside) c.new-channel_id.result c.args.channel c.new-channel_id.ensures.value
+    let call = call_at (state_of c.self.inside) c.new-id.result c.args.channel c.new-id.ensures.value
     c.pointer_at-pointer.result c.release-answer.result (Ok c.in-Ok.field-0) c.in-Ok.is c.release-answer.new.reg
     c.release-answer.new.self (record {
       answer_is = c.release-answer.ensures.answer;
