@@ -1,7 +1,4 @@
 //! Why growing memory isn't made, why it isn't opened, and what is there after each.
-ghost use Rattle.std.specs.Prelude.{IfOk};
-ghost use Rattle.cal_resizable.specs.Memory.{HasAll};
-ghost use Rattle.cal_resizable.specs.View.{HasView};
 
 use crate::{DynamicMemory, DynamicMemoryBuilder, DynamicView, DynamicViewBuilder};
 use cal_alloc::{BumpAllocator, PoolAllocator, ShmAllocator};
@@ -20,9 +17,7 @@ fn create<A: ShmAllocator, Shm: SharedMemory<A>>(
     alloc: Global,
     reg: &mut Registry<AllocatorDetails<A>>,
     name: &FileName,
-) -> Result<DynamicMemory<A, Shm>, SharedMemoryCreateError>
-    ensures has { IfOk result (HasAll reg.new) }
-{
+) -> Result<DynamicMemory<A, Shm>, SharedMemoryCreateError> {
     let config = Shm::Configuration::default();
     DynamicMemoryBuilder::new(name)
         .config(&config)
@@ -34,16 +29,14 @@ fn open<A: ShmAllocator, Shm: SharedMemory<A>>(
     alloc: Global,
     reg: &mut Registry<AllocatorDetails<A>>,
     name: &FileName,
-) -> Result<DynamicView<A, Shm>, SharedMemoryOpenError>
-    ensures has { IfOk result (HasView reg.new) }
-{
+) -> Result<DynamicView<A, Shm>, SharedMemoryOpenError> {
     let config = Shm::Configuration::default();
     DynamicViewBuilder::new(name)
         .config(&config)
         .open(alloc, reg, AccessMode::Read)
 }
 
-/// A name is taken by one memory, whose two segments stay, until that closes.
+/// A name is taken by one memory, whose two segments stay.
 fn a_taken_name_is_refused<A: ShmAllocator, Shm: SharedMemory<A>>(
     rt: &impl Abort,
     alloc: Global,
@@ -55,20 +48,6 @@ fn a_taken_name_is_refused<A: ShmAllocator, Shm: SharedMemory<A>>(
     let second = create::<A, Shm>(alloc, &mut reg, &name);
     assert!(rt; matches!(second.err(), Some(SharedMemoryCreateError::AlreadyExists)));
     assert!(rt; reg.len() == 2);
-    Ok(())
-}
-
-/// A name is free again once its memory has closed.
-fn a_name_is_free_again<A: ShmAllocator, Shm: SharedMemory<A>>(
-    rt: &impl Abort,
-    alloc: Global,
-) -> Result<(), Fail> {
-    let name = FileName::new(b"myMem").ok_or("a file name")?;
-    let mut reg = Registry::new(alloc);
-    create::<A, Shm>(alloc, &mut reg, &name)?.close(&mut reg);
-    assert!(rt; reg.len() == 0);
-    let again = create::<A, Shm>(alloc, &mut reg, &name);
-    assert!(rt; again.is_ok());
     Ok(())
 }
 
@@ -99,7 +78,7 @@ fn a_long_name_is_refused<A: ShmAllocator, Shm: SharedMemory<A>>(
     Ok(())
 }
 
-/// A view opens what was created, and maps nothing yet. What it opened stays until it closes.
+/// A view opens what was created, and maps nothing yet. What is there stays.
 fn a_view_opens_a_memory<A: ShmAllocator, Shm: SharedMemory<A>>(
     rt: &impl Abort,
     alloc: Global,
@@ -110,12 +89,11 @@ fn a_view_opens_a_memory<A: ShmAllocator, Shm: SharedMemory<A>>(
     let view = open::<A, Shm>(alloc, &mut reg, &name)?;
     assert!(rt; memory.number_of_active_segments() == 1);
     assert!(rt; view.number_of_active_segments() == 0);
-    view.close(&mut reg);
     assert!(rt; reg.len() == 2);
     Ok(())
 }
 
-/// A memory that isn't there, or isn't there any more, isn't opened, and neither is one whose name is too long.
+/// A memory that isn't there isn't opened, and neither is one whose name is too long.
 fn an_absent_memory_is_not_opened<A: ShmAllocator, Shm: SharedMemory<A>>(
     rt: &impl Abort,
     alloc: Global,
@@ -127,9 +105,6 @@ fn an_absent_memory_is_not_opened<A: ShmAllocator, Shm: SharedMemory<A>>(
     assert!(rt; matches!(absent.err(), Some(SharedMemoryOpenError::DoesNotExist)));
     let too_long = open::<A, Shm>(alloc, &mut reg, &long_name);
     assert!(rt; matches!(too_long.err(), Some(SharedMemoryOpenError::PathTooLong)));
-    create::<A, Shm>(alloc, &mut reg, &name)?.close(&mut reg);
-    let closed = open::<A, Shm>(alloc, &mut reg, &name);
-    assert!(rt; matches!(closed.err(), Some(SharedMemoryOpenError::DoesNotExist)));
     Ok(())
 }
 
@@ -139,7 +114,6 @@ fn each_rule<A: ShmAllocator, Shm: SharedMemory<A>>(
     alloc: Global,
 ) -> Result<(), Fail> {
     a_taken_name_is_refused::<A, Shm>(rt, alloc)?;
-    a_name_is_free_again::<A, Shm>(rt, alloc)?;
     a_long_name_is_refused::<A, Shm>(rt, alloc)?;
     a_view_opens_a_memory::<A, Shm>(rt, alloc)?;
     an_absent_memory_is_not_opened::<A, Shm>(rt, alloc)
