@@ -3,6 +3,9 @@ pub mod Script
 pub mod Parsing
 pub mod Spelling
 pub mod ReplyText
+pub mod Request
+pub mod MadeScript
+pub mod Summary
 pub mod Streams
 pub mod MemoryStreams
 pub mod ReadAll

@@ -8,15 +8,18 @@ ghost use Rattle.cal_program.specs.Information.{information_of};
 mod examples;
 mod help;
 mod laws;
+mod made_script;
 mod output_buffer;
 mod print;
 mod read;
+mod request;
 mod run_program;
 mod script;
 mod sink;
 mod source;
 mod status;
 mod std_streams;
+mod summary;
 #[cfg(test)]
 mod tests;
 mod words;

@@ -38,6 +38,13 @@ pub enum ParseError {
 }
 
 impl Script {
+    /// A script of these settings and commands.
+    pub fn new(settings: Settings, commands: Vec<Command>) -> Script
+        ensures value { result ≡ record { settings = settings; commands = commands.items } }
+    {
+        Script { settings, commands }
+    }
+
     /// What these bytes say as a script.
     pub fn parse(alloc: Global, bytes: &[u8]) -> Result<Script, ParseError>
         ensures parsed { Parses bytes.now result }
