@@ -1,5 +1,5 @@
 -- What a run of the program owes: the status, the replies that it hands out, and the text that it writes.
-use Rattle.std.specs.Prelude.{ℕ, ◌≡◌, Bool, true, false, nat_lt, IsTrue, not, ◌&&◌, if◌then◌else◌, ◌⊎◌, IsSomeAnd, List, [], ◌++◌, length, Option, Some, None, Result, Ok, Err, decimal, codes}
+use Rattle.std.specs.Prelude.{ℕ, ◌≡◌, ◌≢◌, ◌<◌, ◌^◌, nat_lt, if◌then◌else◌, ◌⊎◌, IfSome, IsSomeAnd, List, [], ◌++◌, length, Option, Some, None, Result, Ok, Err, decimal, codes}
 use Rattle.cal_transport.specs.declared.settings.CreateCause.{CreateCause}
 use Rattle.cal_transport.specs.declared.settings.CreateCause.TheVariants.{BadLayout, SizeOutOfRange, SizeIsZero, InternalError}
 use Rattle.cal_transport.specs.declared.reply.Reply.{Reply}
@@ -9,17 +9,14 @@ use Rattle.cal_transport.specs.Served.{StandsAfter, IsLeft}
 use Rattle.cal_transport.specs.State.{TransportState}
 use Rattle.cal_program.specs.declared.status.Status.{Status}
 use Rattle.cal_program.specs.declared.status.Status.TheVariants.{Done, BadScript, NotCreated, ReadFault, WriteFault, NoMemory, Usage, TooLong}
-use Rattle.cal_program.specs.Words.{is_only_word}
+use Rattle.cal_program.specs.declared.request.Request.{Request}
+use Rattle.cal_program.specs.declared.request.Request.TheVariants.{Run, Make}
 use Rattle.cal_program.specs.Script.{ParsedScript, script_of}
+use Rattle.cal_program.specs.MadeScript.{made_script}
+use Rattle.cal_program.specs.Summary.{shown_count, summary_line}
 use Rattle.cal_program.specs.ReplyText.{line, reply_lines}
 use Rattle.cal_program.specs.Streams.{SourceState, SinkState, Rose, PutsAll, FailsWithin}
 use Rattle.cal_program.specs.ReadAll.{script_limit, ReadsAll, ReadsSome, ReadsTooMany, FailsReading}
-
--- ---- words
-
--- the command line asks for a run: the one word `run`
-abbrev pub asks_for_run : List (List ℕ) → Bool
-asks_for_run words = is_only_word (codes "run") words
 
 -- ---- text
 
@@ -40,18 +37,28 @@ status_code NoMemory = 5
 status_code Usage = 6
 status_code TooLong = 7
 
--- what a status has written, with the replies that it hands out
-abbrev pub status_text : Status → List Reply → List ℕ
-status_text Done replies = reply_lines replies
-status_text (BadScript number) replies = line (codes "line " ++ decimal number)
-status_text (NotCreated cause) replies = line (codes "create " ++ cause_name cause)
-status_text ReadFault replies = []
-status_text WriteFault replies = []
-status_text NoMemory replies = []
-status_text Usage replies = line (codes "usage: run, make NUMBER ROUNDS, relay BUFFER COUNT")
-status_text TooLong replies = line (codes "too long")
+-- what a run that is done has written: a made one what its replies come to, and any other its replies
+abbrev pub run_text : Option Request → List Reply → List ℕ
+run_text (Some (Make number rounds)) replies = summary_line replies
+run_text request replies = reply_lines replies
 
--- ---- the status that words and bytes are due, where nothing fails
+-- what a status has written, with the replies that it hands out
+abbrev pub status_text : Option Request → Status → List Reply → List ℕ
+status_text request Done replies = run_text request replies
+status_text request (BadScript number) replies = line (codes "line " ++ decimal number)
+status_text request (NotCreated cause) replies = line (codes "create " ++ cause_name cause)
+status_text request ReadFault replies = []
+status_text request WriteFault replies = []
+status_text request NoMemory replies = []
+status_text request Usage replies = line (codes "usage: run, make NUMBER ROUNDS, relay BUFFER COUNT")
+status_text request TooLong replies = line (codes "too long")
+
+-- a made run that is done shows so few bytes that their sum can be told
+abbrev pub CanBeTold : Option Request → Status → List Reply → Type 0
+CanBeTold (Some (Make number rounds)) Done replies = shown_count replies < 2 ^ 32
+CanBeTold request status replies = Unit {0}
+
+-- ---- the status that the bytes of a run are due, where nothing fails
 
 -- why no transport can be made with a script's settings; else the run is done
 abbrev pub settings_status : Option CreateCause → Status
@@ -62,10 +69,8 @@ abbrev pub script_status : Result ParsedScript ℕ → Status
 script_status (Err number) = BadScript number
 script_status (Ok script) = settings_status (create_cause script.settings)
 
-abbrev pub due_status : List (List ℕ) → List ℕ → Status
-due_status words bytes =
-    if asks_for_run words then (if nat_lt script_limit (length bytes) then TooLong else script_status (script_of bytes))
-    else Usage
+abbrev pub due_status : List ℕ → Status
+due_status bytes = if nat_lt script_limit (length bytes) then TooLong else script_status (script_of bytes)
 
 -- ---- what is due for each status
 
@@ -89,18 +94,22 @@ IsOutcomeOfBytes bytes NoMemory [] end = end ≡ None
 IsOutcomeOfBytes bytes status replies end = (script : ParsedScript) × (script_of bytes ≡ Ok script) ×
     IsOutcomeOfScript script status replies end
 
--- This status is due, with these replies and what is left of the transport: before anything is written.
-abbrev pub IsDue : List (List ℕ) → SourceState → SourceState → Status → List Reply → Option TransportState → Type 0
-IsDue words before now Usage replies end =
-    (asks_for_run words ≡ false) × (now ≡ before) × (replies ≡ []) × (end ≡ None)
-IsDue words before now ReadFault replies end =
-    IsTrue (asks_for_run words) × FailsReading before now × (replies ≡ []) × (end ≡ None)
-IsDue words before now TooLong replies end =
-    IsTrue (asks_for_run words) × ReadsTooMany before now × (replies ≡ []) × (end ≡ None)
-IsDue words before now NoMemory [] end = IsTrue (asks_for_run words) × ReadsSome before now × (end ≡ None)
-IsDue words before now status replies end =
-    IsTrue (asks_for_run words) ×
-    ((bytes : List ℕ) × ReadsAll before now bytes × IsOutcomeOfBytes bytes status replies end)
+-- This status is due where the source is to be read, with these replies and what is left of the transport.
+abbrev pub IsDueOfRun : SourceState → SourceState → Status → List Reply → Option TransportState → Type 0
+IsDueOfRun before now ReadFault replies end = FailsReading before now × (replies ≡ []) × (end ≡ None)
+IsDueOfRun before now TooLong replies end = ReadsTooMany before now × (replies ≡ []) × (end ≡ None)
+IsDueOfRun before now NoMemory [] end = ReadsSome before now × (end ≡ None)
+IsDueOfRun before now status replies end =
+    (bytes : List ℕ) × ReadsAll before now bytes × IsOutcomeOfBytes bytes status replies end
+
+-- This status is due, with these replies and what is left of the transport: before anything is written. Only a run
+-- touches the source.
+abbrev pub IsDue : Option Request → SourceState → SourceState → Status → List Reply → Option TransportState → Type 0
+IsDue None before now Usage replies end = (now ≡ before) × (replies ≡ []) × (end ≡ None)
+IsDue None before now status replies end = ⊥
+IsDue (Some Run) before now status replies end = IsDueOfRun before now status replies end
+IsDue (Some (Make number rounds)) before now status replies end =
+    (now ≡ before) × IsOutcomeOfScript (made_script number rounds) status replies end
 
 -- The text of the status that was due was put into the sink, and that status stays; or the sink failed within it.
 abbrev pub IsWritten : SinkState → SinkState → List ℕ → Status → Status → Type 0
@@ -108,26 +117,39 @@ IsWritten before now text due WriteFault = FailsWithin before now text
 IsWritten before now text due status = PutsAll before now text × (status ≡ due)
 
 -- The program ended so: some status was due, and its text was written.
-abbrev pub EndsDue : List (List ℕ) → SourceState → SourceState → SinkState → SinkState → Status → List Reply →
+abbrev pub EndsDue : Option Request → SourceState → SourceState → SinkState → SinkState → Status → List Reply →
     Option TransportState → Type 0
-EndsDue words source_before source_now sink_before sink_now status replies end =
-    (due : Status) × IsDue words source_before source_now due replies end × IsWritten sink_before sink_now
-    (status_text due replies) due status
+EndsDue request source_before source_now sink_before sink_now status replies end =
+    (due : Status) × IsDue request source_before source_now due replies end × IsWritten sink_before sink_now
+    (status_text request due replies) due status
 
--- ---- when each status comes, where the source tells its bytes
+-- ---- when each status comes
 
--- A status may come in place of the due one: a fault, where the count of faults rose, and out of memory.
-abbrev pub IsExcused : List (List ℕ) → List ℕ → SourceState → SourceState → SinkState → SinkState → Status → Type 0
-IsExcused words bytes source_before source_now sink_before sink_now ReadFault =
-    IsTrue (asks_for_run words) × Rose source_before.faults source_now.faults
-IsExcused words bytes source_before source_now sink_before sink_now WriteFault = Rose sink_before.faults sink_now.faults
-IsExcused words bytes source_before source_now sink_before sink_now NoMemory = IsTrue (asks_for_run words)
-IsExcused words bytes source_before source_now sink_before sink_now status = ⊥
+-- A status may come in place of the due one: a fault, where the count of faults rose, and out of memory, where something
+-- was to be run.
+abbrev pub IsExcused : Option Request → SourceState → SourceState → SinkState → SinkState → Status → Type 0
+IsExcused request source_before source_now sink_before sink_now ReadFault =
+    (request ≡ Some Run) × Rose source_before.faults source_now.faults
+IsExcused request source_before source_now sink_before sink_now WriteFault =
+    Rose sink_before.faults sink_now.faults
+IsExcused request source_before source_now sink_before sink_now NoMemory = request ≢ None
+IsExcused request source_before source_now sink_before sink_now status = ⊥
 
 -- The status is the due one, or it is excused.
-abbrev pub IsDueOrExcused : List (List ℕ) → List ℕ → SourceState → SourceState → SinkState → SinkState → Status → Type 0
-IsDueOrExcused words bytes source_before source_now sink_before sink_now status =
-    (status ≡ due_status words bytes) ⊎ IsExcused words bytes source_before source_now sink_before sink_now status
+abbrev pub IsDueOrExcused : Status → Option Request → SourceState → SourceState → SinkState → SinkState → Status →
+    Type 0
+IsDueOrExcused due request source_before source_now sink_before sink_now status =
+    (status ≡ due) ⊎ IsExcused request source_before source_now sink_before sink_now status
+
+-- What is due for a run is known where the source tells its bytes, and for all else at once: words without a form are
+-- so, and a made run is done.
+abbrev pub IsExact : Option Request → SourceState → SourceState → SinkState → SinkState → Status → Type 0
+IsExact None source_before source_now sink_before sink_now status =
+    IsDueOrExcused Usage None source_before source_now sink_before sink_now status
+IsExact (Some Run) source_before source_now sink_before sink_now status = IfSome source_before.left
+    (λ bytes. IsDueOrExcused (due_status bytes) (Some Run) source_before source_now sink_before sink_now status)
+IsExact (Some (Make number rounds)) source_before source_now sink_before sink_now status =
+    IsDueOrExcused Done (Some (Make number rounds)) source_before source_now sink_before sink_now status
 
 -- The replies are a run of the script that the bytes are, and the transport that is left stands for the ledger to which
 -- they lead.
@@ -135,3 +157,14 @@ abbrev pub AreRepliesTo : List ℕ → List Reply → Option TransportState → 
 AreRepliesTo bytes replies end =
     (script : ParsedScript) × (script_of bytes ≡ Ok script) × IsRun script.settings script.commands replies ×
     IsSomeAnd end (StandsAfter script.settings script.commands replies)
+
+-- The same of a script that was made.
+abbrev pub AreRepliesToScript : ParsedScript → List Reply → Option TransportState → Type 0
+AreRepliesToScript script replies end = IsRun script.settings script.commands replies ×
+    IsSomeAnd end (StandsAfter script.settings script.commands replies)
+
+-- The replies are a run of what was asked for, where the source tells its bytes or isn't to be read.
+abbrev pub AreDueReplies : Option Request → Option (List ℕ) → List Reply → Option TransportState → Type 0
+AreDueReplies None left replies end = ⊥
+AreDueReplies (Some Run) left replies end = IfSome left (λ bytes. AreRepliesTo bytes replies end)
+AreDueReplies (Some (Make number rounds)) left replies end = AreRepliesToScript (made_script number rounds) replies end

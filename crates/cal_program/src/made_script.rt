@@ -10,6 +10,7 @@ use std::alloc::{AllocError, Global};
 
 /// What the states are multiplied by, and what is added then.
 const MULTIPLIER: u64 = 6_364_136_223_846_793_005;
+
 const INCREMENT: u64 = 1_442_695_040_888_963_407;
 
 /// How many commands a round has.
@@ -75,7 +76,8 @@ fn made_commands(alloc: Global, number: u64, rounds: u16) -> Result<Vec<Command>
     let mut state = number;
     for index in 0..count {
         state = next_state(state);
-        push_round(alloc, &mut commands, Draw::of(state), ROUND_SIZE * index + 1)?;
+        let draw = Draw::of(state);
+        push_round(alloc, &mut commands, draw, ROUND_SIZE * index + 1)?;
     }
     Ok(commands)
 }
@@ -129,11 +131,7 @@ fn push_way_there(
 }
 
 /// Appends a receive, a read and a release of the chunk, and a reclaim. After an error a part of them is appended.
-fn push_way_back(
-    commands: &mut Vec<Command>,
-    draw: Draw,
-    chunk: usize,
-) -> Result<(), AllocError>
+fn push_way_back(commands: &mut Vec<Command>, draw: Draw, chunk: usize) -> Result<(), AllocError>
     ensures back { OnOk result (commands.new.items ≡ commands.old.items ++ way_back draw chunk) }
 {
     let channel = draw.channel;

@@ -4,24 +4,32 @@ ghost use Rattle.std.specs.Prelude.{◌≡◌, ◌<◌, ◌++◌, OnOk, OnErr};
 ghost use Rattle.cal_program.specs.Printing.{Follows};
 ghost use Rattle.cal_program.specs.Streams.{PutsAll, FailsWithin};
 ghost use Rattle.cal_program.specs.ReplyText.{slot_text, count_text, refusal_name, reply_text, line, reply_lines};
-ghost use Rattle.cal_program.specs.Outcome.{cause_name, status_text};
+ghost use Rattle.cal_program.specs.Summary.{summary_text};
+ghost use Rattle.cal_program.specs.Outcome.{cause_name, run_text, status_text, CanBeTold};
 
 use crate::output_buffer::OutputBuffer;
+use crate::request::Request;
 use crate::sink::Sink;
 use crate::source::Failed;
 use crate::status::{Outcome, Status};
+use crate::summary::Summary;
 use cal_transport::{Count, CreateCause, Refusal, Replies, Reply, Slot};
 
-/// Puts the text of an outcome, the replies of a run that is done included. It takes no memory, and calls the sink for
-/// each full buffer and at the end. It calls it no more once it failed.
-pub fn print_outcome<S: Sink>(outcome: &Outcome, sink: &mut S) -> Result<(), Failed>
-    ensures ok { OnOk result
-        (PutsAll (S.state sink.old) (S.state sink.new) (status_text outcome.now.status outcome.now.replies.items)) }
-    ensures failed { OnErr result
-        (FailsWithin (S.state sink.old) (S.state sink.new) (status_text outcome.now.status outcome.now.replies.items)) }
+/// Puts the text of an outcome: of a run that is done its replies, and of a made run what they come to. It takes no
+/// memory, and calls the sink for each full buffer and at the end. It calls it no more once it failed.
+pub fn print_outcome<S: Sink>(
+    request: Option<Request>,
+    outcome: &Outcome,
+    sink: &mut S,
+) -> Result<(), Failed>
+    requires told { CanBeTold request outcome.now.status outcome.now.replies.items }
+    ensures ok { OnOk result (PutsAll (S.state sink.old) (S.state sink.new)
+        (status_text request outcome.now.status outcome.now.replies.items)) }
+    ensures failed { OnErr result (FailsWithin (S.state sink.old) (S.state sink.new)
+        (status_text request outcome.now.status outcome.now.replies.items)) }
 {
     let mut buffer = OutputBuffer::new();
-    print_status(&mut buffer, sink, outcome.status, &outcome.replies);
+    print_status(&mut buffer, sink, request, outcome.status, &outcome.replies);
     buffer.flush(sink);
     if buffer.has_failed() {
         return Err(Failed);
@@ -32,14 +40,16 @@ pub fn print_outcome<S: Sink>(outcome: &Outcome, sink: &mut S) -> Result<(), Fai
 fn print_status<S: Sink>(
     buffer: &mut OutputBuffer,
     sink: &mut S,
+    request: Option<Request>,
     status: Status,
     replies: &Replies<Reply>,
 )
+    requires { CanBeTold request status replies.now.items }
     ensures { Follows buffer.old (S.state sink.old) buffer.new (S.state sink.new)
-        (status_text status replies.now.items) }
+        (status_text request status replies.now.items) }
 {
     match status {
-        Status::Done => print_replies(buffer, sink, replies),
+        Status::Done => print_run(buffer, sink, request, replies),
         Status::BadScript { line } => {
             buffer.text(sink, b"line ");
             buffer.number(sink, line);
@@ -57,6 +67,42 @@ fn print_status<S: Sink>(
         ),
         Status::TooLong => buffer.text(sink, b"too long\n"),
     }
+}
+
+/// A run that is done: one line where it was made, and else a line for each reply.
+fn print_run<S: Sink>(
+    buffer: &mut OutputBuffer,
+    sink: &mut S,
+    request: Option<Request>,
+    replies: &Replies<Reply>,
+)
+    requires { CanBeTold request Status.Done replies.now.items }
+    ensures { Follows buffer.old (S.state sink.old) buffer.new (S.state sink.new)
+        (run_text request replies.now.items) }
+{
+    match request {
+        Some(
+            Request::Make {
+                number: _,
+                rounds: _,
+            },
+        ) => print_summary(buffer, sink, Summary::of(replies)),
+        Some(Request::Run) | None => print_replies(buffer, sink, replies),
+    }
+}
+
+fn print_summary<S: Sink>(buffer: &mut OutputBuffer, sink: &mut S, summary: Summary)
+    ensures { Follows buffer.old (S.state sink.old) buffer.new (S.state sink.new) (line (summary_text summary)) }
+{
+    buffer.text(sink, b"replies ");
+    buffer.number(sink, summary.answered);
+    buffer.text(sink, b" refused ");
+    buffer.number(sink, summary.refused);
+    buffer.text(sink, b" transit ");
+    buffer.number(sink, summary.transit);
+    buffer.text(sink, b" sum ");
+    buffer.number(sink, summary.sum);
+    buffer.text(sink, b"\n");
 }
 
 fn print_replies<S: Sink>(buffer: &mut OutputBuffer, sink: &mut S, replies: &Replies<Reply>)

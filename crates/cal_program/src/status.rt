@@ -8,7 +8,7 @@ use cal_transport::{CreateCause, Replies, Reply, Transport};
 /// How a run of the program ended.
 #[derive(Clone, Copy, Debug, PartialEq, Eq)]
 pub enum Status {
-    /// The replies were written.
+    /// The replies were written, or what the replies of a made run come to.
     Done,
     /// The source's bytes aren't a script: a line, counted from one, is the first that is bad.
     BadScript { line: usize },

@@ -5,6 +5,7 @@ ghost use Rattle.std.specs.Io.KnownBytes.{IsAtEnd};
 ghost use Rattle.cal_program.specs.Streams.{Takes, TakesNothing};
 
 mod clean;
+mod made;
 mod many;
 mod memory;
 mod scripts;
