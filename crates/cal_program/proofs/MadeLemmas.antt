@@ -1,0 +1,85 @@
+-- Made scripts: a round more, no cause against the settings, and as many bytes asked for as there are rounds.
+use Rattle.std.proofs.Common.{◌≡◌, ℕ, zero, suc, ◌+◌, ◌*◌, ◌%◌, ◌^◌, ◌<◌, ◌≤◌, List, [], ◌∷◌, ◌++◌, None, refl, sym, ap, ◌∙◌, arith, add-one, append_assoc}
+use Rattle.std.specs.List.{sum_by, flat_map}
+use Rattle.std.proofs.lemmas.Grind.{flat_map-append}
+use Rattle.std.proofs.lemmas.List.{append-nil}
+use Rattle.std.proofs.lemmas.List.Sums.{sum_by-append}
+use Rattle.std.proofs.Math.Nat.{mod-add-mod}
+use Rattle.cal_transport.specs.declared.command.Command.{Command}
+use Rattle.cal_transport.specs.declared.reply.Reply.{Reply}
+use Rattle.cal_transport.specs.Ledger.{numbers_below}
+use Rattle.cal_transport.specs.Settings.{create_cause}
+use Rattle.cal_transport.specs.Run.{IsRun}
+use Rattle.cal_program.specs.MadeScript.{made_settings, next_state, state_after, draw_of, round_of, round_at, made_commands}
+use Rattle.cal_program.specs.Summary.{shown_count}
+use Rattle.cal_program.proofs.ShownLemmas.{asked_count, run-shown}
+
+pub made_settings-fine : create_cause made_settings ≡ None
+made_settings-fine = refl
+
+-- a product that wraps, and then a sum that wraps
+pub next_state-wrapping : (state : ℕ) →
+    (state * 6364136223846793005 % 2 ^ 64 + 1442695040888963407) % 2 ^ 64 ≡ next_state state
+next_state-wrapping state = mod-add-mod (state * 6364136223846793005) (2 ^ 64) 1442695040888963407
+
+-- ---- one round more
+
+rounds-next : (number rounds : ℕ) →
+    made_commands number (suc rounds) ≡ made_commands number rounds ++ round_at number rounds
+rounds-next number rounds =
+    flat_map-append (round_at number) (numbers_below rounds) (rounds ∷ [])
+    ∙ ap (λ (last : List Command). made_commands number rounds ++ last) (append-nil (round_at number rounds))
+
+-- the state of the next index
+pub state_after-next : (number index : ℕ) (state now : ℕ) → state ≡ state_after number index → now ≡ next_state state →
+    now ≡ state_after number (index + 1)
+state_after-next number index state now before step =
+    step ∙ ap next_state before ∙ ap (state_after number) (sym (add-one index))
+
+-- the commands of the next index
+pub made_commands-next : (number index state now : ℕ) (before later : List Command) →
+    state ≡ state_after number index → now ≡ next_state state → before ≡ made_commands number index →
+    later ≡ before ++ round_of (draw_of now) (8 * index + 1) → later ≡ made_commands number (index + 1)
+made_commands-next number index state now before later from step list pushed =
+    let same : round_of (draw_of now) (8 * index + 1) ≡ round_at number index =
+    ap (λ (s : ℕ). round_of (draw_of s) (8 * index + 1)) (step ∙ ap next_state from) in
+    pushed
+    ∙ ap (λ (front : List Command). front ++ round_of (draw_of now) (8 * index + 1)) list
+    ∙ ap (λ (last : List Command). made_commands number index ++ last) same
+    ∙ sym (rounds-next number index)
+    ∙ ap (made_commands number) (sym (add-one index))
+
+-- ---- the bytes that are asked for
+
+made_commands-asked : (number rounds : ℕ) → sum_by asked_count (made_commands number rounds) ≡ rounds
+made_commands-asked number zero = refl
+made_commands-asked number (suc rounds) =
+    let before : sum_by asked_count (made_commands number rounds) ≡ rounds = made_commands-asked number rounds in
+    let one : sum_by asked_count (round_at number rounds) ≡ 1 = refl in
+    let whole : sum_by asked_count (made_commands number rounds ++ round_at number rounds) ≡
+        sum_by asked_count (made_commands number rounds) + sum_by asked_count (round_at number rounds) =
+    sum_by-append asked_count (made_commands number rounds) (round_at number rounds) in
+    ap (sum_by asked_count) (rounds-next number rounds) ∙ whole
+    ∙ omega (arith, before, one, add-one rounds)
+
+-- a made run shows a byte a round at most
+pub made-shown : (number rounds : ℕ) (replies : List Reply) →
+    IsRun made_settings (made_commands number rounds) replies → shown_count replies ≤ rounds
+made-shown number rounds replies run =
+    omega (arith, run-shown made_settings (made_commands number rounds) replies run, made_commands-asked number rounds)
+
+-- ---- four commands, one after another
+
+pub four-pushed : (before a b c d : List Command) (first second third fourth : Command) →
+    a ≡ before ++ first ∷ [] → b ≡ a ++ second ∷ [] → c ≡ b ++ third ∷ [] → d ≡ c ++ fourth ∷ [] →
+    d ≡ before ++ (first ∷ second ∷ third ∷ fourth ∷ [])
+four-pushed before a b c d first second third fourth is_a is_b is_c is_d =
+    is_d
+    ∙ ap (λ (front : List Command). front ++ fourth ∷ []) (is_c
+    ∙ ap (λ (front : List Command). front ++ third ∷ []) (is_b
+    ∙ ap (λ (front : List Command). front ++ second ∷ []) is_a))
+    ∙ ap (λ (front : List Command). (front ++ third ∷ []) ++ fourth ∷ [])
+    (append_assoc before (first ∷ []) (second ∷ []))
+    ∙ ap (λ (front : List Command). front ++ fourth ∷ [])
+    (append_assoc before (first ∷ second ∷ []) (third ∷ []))
+    ∙ append_assoc before (first ∷ second ∷ third ∷ []) (fourth ∷ [])
