@@ -3,6 +3,10 @@ pub mod BufferLemmas
 pub mod WordLemmas
 pub mod PieceLemmas
 pub mod ScriptLemmas
+pub mod ShownLemmas
+pub mod MadeLemmas
+pub mod SummaryLemmas
 pub mod OutcomeLemmas
+pub mod RequestLemmas
 pub mod SpellingLemmas
 pub mod SettingsLemmas

@@ -6,11 +6,13 @@ use Rattle.std.proofs.lemmas.List.{append-nil}
 use Rattle.std.proofs.lemmas.List.Sums.{sum_by-append}
 use Rattle.std.proofs.Math.Nat.{mod-add-mod}
 use Rattle.cal_transport.specs.declared.command.Command.{Command}
+use Rattle.cal_transport.specs.declared.command.Command.TheVariants.{Loan, Write, Send, Discard, Receive, Read, Release, Reclaim}
 use Rattle.cal_transport.specs.declared.reply.Reply.{Reply}
 use Rattle.cal_transport.specs.Ledger.{numbers_below}
 use Rattle.cal_transport.specs.Settings.{create_cause}
 use Rattle.cal_transport.specs.Run.{IsRun}
-use Rattle.cal_program.specs.MadeScript.{made_settings, next_state, state_after, draw_of, round_of, round_at, made_commands}
+use Rattle.cal_program.specs.declared.made_script.Draw.{Draw}
+use Rattle.cal_program.specs.MadeScript.{made_settings, next_state, state_after, draw_of, way_there, way_back, round_of, round_at, made_commands}
 use Rattle.cal_program.specs.Summary.{shown_count}
 use Rattle.cal_program.proofs.ShownLemmas.{asked_count, run-shown}
 
@@ -37,14 +39,15 @@ state_after-next number index state now before step =
     step ∙ ap next_state before ∙ ap (state_after number) (sym (add-one index))
 
 -- the commands of the next index
-pub made_commands-next : (number index state now : ℕ) (before later : List Command) →
-    state ≡ state_after number index → now ≡ next_state state → before ≡ made_commands number index →
-    later ≡ before ++ round_of (draw_of now) (8 * index + 1) → later ≡ made_commands number (index + 1)
-made_commands-next number index state now before later from step list pushed =
-    let same : round_of (draw_of now) (8 * index + 1) ≡ round_at number index =
-    ap (λ (s : ℕ). round_of (draw_of s) (8 * index + 1)) (step ∙ ap next_state from) in
+pub made_commands-next : (number index state now : ℕ) (draw : Draw) (before later : List Command) →
+    state ≡ state_after number index → now ≡ next_state state → draw ≡ draw_of now →
+    before ≡ made_commands number index → later ≡ before ++ round_of draw (8 * index + 1) →
+    later ≡ made_commands number (index + 1)
+made_commands-next number index state now draw before later from step drawn list pushed =
+    let same : round_of draw (8 * index + 1) ≡ round_at number index =
+    ap (λ (d : Draw). round_of d (8 * index + 1)) (drawn ∙ ap draw_of (step ∙ ap next_state from)) in
     pushed
-    ∙ ap (λ (front : List Command). front ++ round_of (draw_of now) (8 * index + 1)) list
+    ∙ ap (λ (front : List Command). front ++ round_of draw (8 * index + 1)) list
     ∙ ap (λ (last : List Command). made_commands number index ++ last) same
     ∙ sym (rounds-next number index)
     ∙ ap (made_commands number) (sym (add-one index))
@@ -70,7 +73,7 @@ made-shown number rounds replies run =
 
 -- ---- four commands, one after another
 
-pub four-pushed : (before a b c d : List Command) (first second third fourth : Command) →
+four-pushed : (before a b c d : List Command) (first second third fourth : Command) →
     a ≡ before ++ first ∷ [] → b ≡ a ++ second ∷ [] → c ≡ b ++ third ∷ [] → d ≡ c ++ fourth ∷ [] →
     d ≡ before ++ (first ∷ second ∷ third ∷ fourth ∷ [])
 four-pushed before a b c d first second third fourth is_a is_b is_c is_d =
@@ -83,3 +86,28 @@ four-pushed before a b c d first second third fourth is_a is_b is_c is_d =
     ∙ ap (λ (front : List Command). front ++ fourth ∷ [])
     (append_assoc before (first ∷ second ∷ []) (third ∷ []))
     ∙ append_assoc before (first ∷ second ∷ third ∷ []) (fourth ∷ [])
+
+pub way_there-pushed : (draw : Draw) (chunk : ℕ) (bytes : List ℕ) (before a b c d : List Command) →
+    bytes ≡ draw.byte ∷ [] → a ≡ before ++ Loan draw.size 1 ∷ [] → b ≡ a ++ Write chunk 0 bytes ∷ [] →
+    c ≡ b ++ Send draw.channel chunk ∷ [] → d ≡ c ++ Discard chunk ∷ [] → d ≡ before ++ way_there draw chunk
+way_there-pushed draw chunk bytes before a b c d copied is_a is_b is_c is_d =
+    four-pushed before a b c d (Loan draw.size 1) (Write chunk 0 bytes) (Send draw.channel chunk) (Discard chunk)
+    is_a is_b is_c is_d
+    ∙ ap (λ (written : List ℕ). before
+    ++ (Loan draw.size 1 ∷ Write chunk 0 written ∷ Send draw.channel chunk ∷ Discard chunk ∷ [])) copied
+
+pub way_back-pushed : (draw : Draw) (chunk : ℕ) (before a b c d : List Command) →
+    a ≡ before ++ Receive draw.channel ∷ [] → b ≡ a ++ Read draw.channel chunk 0 1 ∷ [] →
+    c ≡ b ++ Release draw.channel chunk ∷ [] → d ≡ c ++ Reclaim draw.channel ∷ [] →
+    d ≡ before ++ way_back draw chunk
+way_back-pushed draw chunk before a b c d is_a is_b is_c is_d =
+    four-pushed before a b c d (Receive draw.channel) (Read draw.channel chunk 0 1) (Release draw.channel chunk)
+    (Reclaim draw.channel) is_a is_b is_c is_d
+
+-- both halves
+pub round_of-pushed : (draw : Draw) (chunk : ℕ) (before between now : List Command) →
+    between ≡ before ++ way_there draw chunk → now ≡ between ++ way_back draw chunk →
+    now ≡ before ++ round_of draw chunk
+round_of-pushed draw chunk before between now there back =
+    back ∙ ap (λ (front : List Command). front ++ way_back draw chunk) there
+    ∙ append_assoc before (way_there draw chunk) (way_back draw chunk)

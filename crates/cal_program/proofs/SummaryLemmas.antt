@@ -1,12 +1,14 @@
 -- One reply more, in the numbers to which replies come.
-use Rattle.std.proofs.Common.{◌≡◌, ℕ, ◌+◌, ◌≤◌, Some, List, ◌++◌, ◌∷◌, [], take, ap, ◌∙◌, subst, append_assoc, arith}
-use Rattle.std.specs.Prelude.{slice_get}
+use Rattle.std.proofs.Common.{◌≡◌, ℕ, ◌+◌, ◌≤◌, Some, List, ◌++◌, ◌∷◌, [], length, take, ap, ◌∙◌, subst, append_assoc, arith}
+use Rattle.std.specs.Prelude.{slice_get, sum}
 use Rattle.std.specs.List.{sum_by}
+use Rattle.std.proofs.lemmas.List.{take_all}
 use Rattle.std.proofs.lemmas.List.Sums.{sum_by_more, sum_by_more_le}
 use Rattle.std.proofs.lemmas.Option.{slice_get_within, get_or_from_slice_get}
 use Rattle.cal_transport.specs.declared.reply.Reply.{Reply}
 use Rattle.cal_transport.specs.declared.reply.Reply.TheVariants.{Loaned, Written, Sent, Received, Shown, Released, Reclaimed, Discarded, Counted, Refused, Transit}
-use Rattle.cal_program.specs.Summary.{answer_count, refusal_count, transit_count}
+use Rattle.cal_program.specs.declared.summary.Summary.{Summary}
+use Rattle.cal_program.specs.Summary.{answer_count, refusal_count, transit_count, shown_bytes, summary_of}
 
 -- a sum over the replies so far, and the next one
 pub sum_by-next : (f : Reply → ℕ) (replies : List Reply) (place : ℕ) (reply : Reply) →
@@ -64,6 +66,28 @@ transit_count-few (Reclaimed back) = omega arith
 transit_count-few Discarded = omega arith
 transit_count-few (Counted count) = omega arith
 transit_count-few (Refused refusal) = omega arith
+
+-- ---- all replies
+
+abbrev summary : ℕ → ℕ → ℕ → ℕ → Summary
+summary answered refused transit total =
+    record { answered = answered; refused = refused; transit = transit; sum = total }
+
+-- what the replies up to the last come to is what all come to
+pub summary_of-all : (s : Summary) (replies : List Reply) (place : ℕ) → length replies ≤ place →
+    s.answered ≡ sum_by answer_count (take place replies) → s.refused ≡ sum_by refusal_count (take place replies) →
+    s.transit ≡ sum_by transit_count (take place replies) →
+    s.sum ≡ sum_by (λ reply. sum (shown_bytes reply)) (take place replies) → s ≡ summary_of replies
+summary_of-all s replies place past answered refused transit total =
+    let whole : take place replies ≡ replies = take_all place replies past in
+    ap (λ (n : ℕ). summary n s.refused s.transit s.sum) (answered ∙ ap (sum_by answer_count) whole)
+    ∙ ap (λ (n : ℕ). summary (sum_by answer_count replies) n s.transit s.sum)
+    (refused ∙ ap (sum_by refusal_count) whole)
+    ∙ ap (λ (n : ℕ). summary (sum_by answer_count replies) (sum_by refusal_count replies) n s.sum)
+    (transit ∙ ap (sum_by transit_count) whole)
+    ∙ ap (λ (n : ℕ). summary (sum_by answer_count replies) (sum_by refusal_count replies)
+    (sum_by transit_count replies) n)
+    (total ∙ ap (sum_by (λ reply. sum (shown_bytes reply))) whole)
 
 -- the parts of the line, one after another
 pub summary-parts : (shown a b c d e f g h : List ℕ) →

@@ -1,0 +1,10 @@
+use Rattle.cal_program.proofs.MadeLemmas.{way_there-pushed}
+use Rattle.cal_program.proofs.made_script.push_way_there.Goals as goal
+
+pub returns : goal.returns
+returns c = record {
+  there = way_there-pushed c.args.draw c.args.chunk c.in_ok-bytes.bytes c.args.commands.now.items
+      c.push.new.self.items c.push-2.new.self.items c.push-3.new.self.items c.push-4.new.self.items
+      c.in_ok-bytes.ensures.copied c.in_ok-push.ensures.items c.in_ok-push-2.ensures.items
+      c.in_ok-push-3.ensures.items c.in_ok-push-4.ensures.items;
+}
