@@ -60,7 +60,7 @@ made_commands-asked number (suc rounds) =
     let before : sum_by asked_count (made_commands number rounds) ≡ rounds = made_commands-asked number rounds in
     let one : sum_by asked_count (round_at number rounds) ≡ 1 = refl in
     let whole : sum_by asked_count (made_commands number rounds ++ round_at number rounds) ≡
-        sum_by asked_count (made_commands number rounds) + sum_by asked_count (round_at number rounds) =
+    sum_by asked_count (made_commands number rounds) + sum_by asked_count (round_at number rounds) =
     sum_by-append asked_count (made_commands number rounds) (round_at number rounds) in
     ap (sum_by asked_count) (rounds-next number rounds) ∙ whole
     ∙ omega (arith, before, one, add-one rounds)

@@ -89,7 +89,7 @@ channels-shown l [] = refl
 channels-shown l (channel ∷ channels) =
     let first = map (λ (chunk : Chunk). Transit channel (slot_of l chunk)) (transit_on l channel) in
     let others = flat_map
-        (λ (channel : ℕ). map (λ (chunk : Chunk). Transit channel (slot_of l chunk)) (transit_on l channel)) channels in
+    (λ (channel : ℕ). map (λ (chunk : Chunk). Transit channel (slot_of l chunk)) (transit_on l channel)) channels in
     let whole : shown_count (first ++ others) ≡ shown_count first + shown_count others =
     sum_by-append shown_by first others in
     let none : shown_count first ≡ 0 = lines-shown l channel (transit_on l channel) in

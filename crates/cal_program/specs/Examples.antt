@@ -5,7 +5,10 @@ use Rattle.cal_alloc.specs.declared.allocation_strategy.AllocationStrategy.TheVa
 use Rattle.cal_transport.specs.declared.settings.Settings.{Settings}
 use Rattle.cal_transport.specs.declared.reply.Slot.{Slot}
 use Rattle.cal_transport.specs.declared.command.Command.{Command}
-use Rattle.cal_transport.specs.declared.command.Command.TheVariants.{Loan, Write, Send, Receive, Read}
+use Rattle.cal_transport.specs.declared.command.Command.TheVariants.{Loan, Write, Send, Receive, Read, Release, Reclaim, Discard}
+use Rattle.cal_transport.specs.declared.reply.Reply.{Reply}
+use Rattle.cal_transport.specs.declared.reply.Reply.TheVariants.{Shown, Refused, Transit}
+use Rattle.cal_transport.specs.declared.reply.Refusal.TheVariants.{NotLoaned}
 
 -- one chunk, from its loan to its bytes on the other side
 abbrev pub one_chunk : List ℕ
@@ -43,3 +46,12 @@ one_slot = record {
   segment = 2;
   place = 16;
 }
+
+-- the commands of `make 1 1`
+abbrev pub round_of_one : List Command
+round_of_one = Loan 23 1 ∷ Write 1 0 (223 ∷ []) ∷ Send 0 1 ∷ Discard 1 ∷ Receive 0 ∷ Read 0 1 0 1 ∷ Release 0 1
+    ∷ Reclaim 0 ∷ []
+
+-- bytes that were read, a refusal, and a chunk in transit
+abbrev pub some_replies : List Reply
+some_replies = Shown (255 ∷ 0 ∷ 5 ∷ []) ∷ Refused NotLoaned ∷ Transit 1 one_slot ∷ []

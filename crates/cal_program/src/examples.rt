@@ -7,9 +7,13 @@ ghost use Rattle.cal_program.specs.Words.{number_of, bytes_of};
 ghost use Rattle.cal_program.specs.Spelling.{settings_line, command_line};
 ghost use Rattle.cal_program.specs.ReplyText.{line, reply_text, reply_lines};
 ghost use Rattle.cal_program.specs.Script.{script_of, command_of, settings_of};
-ghost use Rattle.cal_program.specs.Outcome.{status_text, due_status};
-ghost use Rattle.cal_program.specs.Examples.{one_chunk, small_settings, one_chunk_commands, bad_third_line, one_slot};
+ghost use Rattle.cal_transport.specs.Settings.{create_cause};
+ghost use Rattle.cal_program.specs.Request.{request_of};
+ghost use Rattle.cal_program.specs.MadeScript.{made_settings, next_state, draw_of, made_commands};
+ghost use Rattle.cal_program.specs.Summary.{summary_line};
+ghost use Rattle.cal_program.specs.Examples.{one_chunk, small_settings, one_chunk_commands, bad_third_line, one_slot, round_of_one, some_replies};
 
+use crate::request::Request;
 use cal_transport::{Command, Refusal, Reply};
 
 /// A script's settings and commands, with and without the last line feed.
@@ -74,4 +78,27 @@ pub fn replies_have_lines()
     ensures refused { reply_text (Reply.Refused Refusal.NotLoaned) ≡ codes "refused NotLoaned" }
     ensures lines { reply_lines (Reply.Written ∷ Reply.Discarded ∷ []) ≡
         line (codes "written") ++ line (codes "discarded") }
+{}
+
+/// What words ask for. Numbers are as in a script, and at most 10,000 rounds are asked for.
+pub fn words_ask()
+    ensures run { request_of (codes "run" ∷ []) ≡ Some Request.Run }
+    ensures made { request_of (codes "make" ∷ codes "7" ∷ codes "10000" ∷ []) ≡ Some (Request.Make 7 10000) }
+    ensures too_many { request_of (codes "make" ∷ codes "7" ∷ codes "10001" ∷ []) ≡ None }
+    ensures leading_zero { request_of (codes "make" ∷ codes "07" ∷ codes "1" ∷ []) ≡ None }
+    ensures one_number { request_of (codes "make" ∷ codes "7" ∷ []) ≡ None }
+    ensures none { request_of [] ≡ None }
+{}
+
+/// The one round of the number 1, and the settings over which it runs.
+pub fn a_round_is_made()
+    ensures state { next_state 1 ≡ 7806831264735756412 }
+    ensures draw { draw_of (next_state 1) ≡ record { size = 23; byte = 223; channel = 0 } }
+    ensures commands { made_commands 1 1 ≡ round_of_one }
+    ensures fine { create_cause made_settings ≡ None }
+{}
+
+/// Two answers, one of them a refusal, and a chunk in transit.
+pub fn replies_are_summed_up()
+    ensures told { summary_line some_replies ≡ line (codes "replies 2 refused 1 transit 1 sum 260") }
 {}

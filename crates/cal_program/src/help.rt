@@ -8,10 +8,9 @@ pub const HELP: &str = "\
 usage: run, make NUMBER ROUNDS, relay BUFFER COUNT
 
 run  reads a script from standard input and writes the replies to its commands.
-make runs a script that is made from NUMBER, of at most 10000 ROUNDS, each of eight
-     commands, and writes one line: replies A refused B transit C sum D, how many
-     commands were answered, how many of them refused, how many chunks are in
-     transit, and the sum of all bytes that were read.
+make runs a script that is made from the two numbers, eight commands a round and at
+     most 10000 rounds, and writes replies A refused B transit C sum D: the answers,
+     the refusals among them, the chunks in transit, and the sum of all bytes read.
 relay isn't served yet.
 
 A script has one line for the settings, and then one line for each command. Words
