@@ -1,5 +1,5 @@
 -- Made scripts: a round more, no cause against the settings, and as many bytes asked for as there are rounds.
-use Rattle.std.proofs.Common.{◌≡◌, ℕ, zero, suc, ◌+◌, ◌*◌, ◌%◌, ◌^◌, ◌<◌, ◌≤◌, List, [], ◌∷◌, ◌++◌, None, refl, sym, ap, ◌∙◌, arith, add-one, append_assoc}
+use Rattle.std.proofs.Common.{◌≡◌, ℕ, zero, suc, ◌+◌, ◌*◌, ◌%◌, ◌^◌, ◌<◌, ◌≤◌, List, [], ◌∷◌, ◌++◌, length, None, refl, sym, ap, ◌∙◌, arith, add-one, append_assoc, length-append}
 use Rattle.std.specs.List.{sum_by, flat_map}
 use Rattle.std.proofs.lemmas.Grind.{flat_map-append}
 use Rattle.std.proofs.lemmas.List.{append-nil}
@@ -13,8 +13,8 @@ use Rattle.cal_transport.specs.Settings.{create_cause}
 use Rattle.cal_transport.specs.Run.{IsRun}
 use Rattle.cal_program.specs.declared.made_script.Draw.{Draw}
 use Rattle.cal_program.specs.MadeScript.{made_settings, next_state, state_after, draw_of, way_there, way_back, round_of, round_at, made_commands}
-use Rattle.cal_program.specs.Summary.{shown_count}
-use Rattle.cal_program.proofs.ShownLemmas.{asked_count, run-shown}
+use Rattle.cal_program.specs.Summary.{shown_count, summary_of}
+use Rattle.cal_program.proofs.ShownLemmas.{asked_count, run-shown, run-answers}
 
 pub made_settings-fine : create_cause made_settings ≡ None
 made_settings-fine = refl
@@ -70,6 +70,23 @@ pub made-shown : (number rounds : ℕ) (replies : List Reply) →
     IsRun made_settings (made_commands number rounds) replies → shown_count replies ≤ rounds
 made-shown number rounds replies run =
     omega (arith, run-shown made_settings (made_commands number rounds) replies run, made_commands-asked number rounds)
+
+-- ---- the answers
+
+made_commands-length : (number rounds : ℕ) → length (made_commands number rounds) ≡ 8 * rounds
+made_commands-length number zero = refl
+made_commands-length number (suc rounds) =
+    let before : length (made_commands number rounds) ≡ 8 * rounds = made_commands-length number rounds in
+    let eight : length (round_at number rounds) ≡ 8 = refl in
+    ap length (rounds-next number rounds)
+    ∙ length-append (made_commands number rounds) (round_at number rounds)
+    ∙ omega (arith, before, eight)
+
+-- a made run has eight answers a round
+pub made-answers : (number rounds : ℕ) (replies : List Reply) →
+    IsRun made_settings (made_commands number rounds) replies → (summary_of replies).answered ≡ 8 * rounds
+made-answers number rounds replies run =
+    run-answers made_settings (made_commands number rounds) replies run ∙ made_commands-length number rounds
 
 -- ---- four commands, one after another
 

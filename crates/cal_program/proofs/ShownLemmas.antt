@@ -1,4 +1,4 @@
--- A run shows no more bytes than its commands ask for.
+-- A run shows no more bytes than its commands ask for, and answers each of them.
 use Rattle.std.proofs.Common.{◌≡◌, ℕ, zero, suc, ◌+◌, ◌≤◌, List, [], ◌∷◌, ◌++◌, length, take, drop, map, Option, Some, None, refl, sym, ap, ◌∙◌, subst, arith}
 use Rattle.std.specs.List.{sum_by, flat_map}
 use Rattle.std.proofs.lemmas.List.{length-take}
@@ -9,11 +9,12 @@ use Rattle.cal_transport.specs.declared.command.Command.TheVariants as command
 use Rattle.cal_transport.specs.declared.reply.Reply.{Reply}
 use Rattle.cal_transport.specs.declared.reply.Reply.TheVariants.{Loaned, Written, Sent, Received, Shown, Released, Reclaimed, Discarded, Counted, Refused, Transit}
 use Rattle.cal_transport.specs.declared.reply.Refusal.{Refusal}
+use Rattle.cal_transport.specs.declared.reply.Slot.{Slot}
 use Rattle.cal_transport.specs.Ledger.{Ledger, Chunk, first_ledger, numbers_below, chunk_named}
 use Rattle.cal_transport.specs.Cause.{cause}
 use Rattle.cal_transport.specs.Step.{IsStep, IsStepBy, IsLoan, Owes, after_step, bytes_of_chunk, grown_ledger, slot_of}
 use Rattle.cal_transport.specs.Run.{AreStepsAndTransit, IsRun, transit_on, transit_list}
-use Rattle.cal_program.specs.Summary.{shown_bytes, shown_count}
+use Rattle.cal_program.specs.Summary.{answer_count, shown_bytes, shown_count, summary_of}
 
 -- how many bytes a command asks to see
 abbrev pub asked_count : Command → ℕ
@@ -74,37 +75,38 @@ step-shown l place asked reply h = answer-shown (cause l asked) l place asked re
 
 -- ---- what is in transit
 
-lines-shown : (l : Ledger) (channel : ℕ) (chunks : List Chunk) →
-    shown_count (map (λ chunk. Transit channel (slot_of l chunk)) chunks) ≡ 0
-lines-shown l channel [] = refl
-lines-shown l channel (chunk ∷ chunks) =
-    sum_by-cons shown_by (Transit channel (slot_of l chunk))
-    (map (λ chunk. Transit channel (slot_of l chunk)) chunks)
-    ∙ lines-shown l channel chunks
+-- lines of chunks in transit, where one counts for nothing
+lines-none : (f : Reply → ℕ) → ((channel : ℕ) (slot : Slot) → f (Transit channel slot) ≡ 0) → (l : Ledger)
+    (channel : ℕ) (chunks : List Chunk) → sum_by f (map (λ chunk. Transit channel (slot_of l chunk)) chunks) ≡ 0
+lines-none f none l channel [] = refl
+lines-none f none l channel (chunk ∷ chunks) =
+    let others = map (λ (c : Chunk). Transit channel (slot_of l c)) chunks in
+    sum_by-cons f (Transit channel (slot_of l chunk)) others
+    ∙ ap (λ (n : ℕ). n + sum_by f others) (none channel (slot_of l chunk))
+    ∙ lines-none f none l channel chunks
 
-channels-shown : (l : Ledger) (channels : List ℕ) →
-    shown_count (flat_map (λ channel. map (λ chunk. Transit channel (slot_of l chunk)) (transit_on l channel)) channels)
-    ≡ 0
-channels-shown l [] = refl
-channels-shown l (channel ∷ channels) =
+channels-none : (f : Reply → ℕ) → ((channel : ℕ) (slot : Slot) → f (Transit channel slot) ≡ 0) → (l : Ledger)
+    (channels : List ℕ) → sum_by f
+    (flat_map (λ channel. map (λ chunk. Transit channel (slot_of l chunk)) (transit_on l channel)) channels) ≡ 0
+channels-none f none l [] = refl
+channels-none f none l (channel ∷ channels) =
     let first = map (λ (chunk : Chunk). Transit channel (slot_of l chunk)) (transit_on l channel) in
     let others = flat_map
-    (λ (channel : ℕ). map (λ (chunk : Chunk). Transit channel (slot_of l chunk)) (transit_on l channel)) channels in
-    let whole : shown_count (first ++ others) ≡ shown_count first + shown_count others =
-    sum_by-append shown_by first others in
-    let none : shown_count first ≡ 0 = lines-shown l channel (transit_on l channel) in
-    let rest : shown_count others ≡ 0 = channels-shown l channels in
-    whole ∙ ap (λ (n : ℕ). n + shown_count others) none ∙ rest
+    (λ (c : ℕ). map (λ (chunk : Chunk). Transit c (slot_of l chunk)) (transit_on l c)) channels in
+    sum_by-append f first others
+    ∙ ap (λ (n : ℕ). n + sum_by f others) (lines-none f none l channel (transit_on l channel))
+    ∙ channels-none f none l channels
 
-transit-shown : (l : Ledger) → shown_count (transit_list l) ≡ 0
-transit-shown l = channels-shown l (numbers_below (length l.histories))
+transit-none : (f : Reply → ℕ) → ((channel : ℕ) (slot : Slot) → f (Transit channel slot) ≡ 0) → (l : Ledger) →
+    sum_by f (transit_list l) ≡ 0
+transit-none f none l = channels-none f none l (numbers_below (length l.histories))
 
 -- ---- the run
 
 steps-shown : (l : Ledger) (place : ℕ) (commands : List Command) (replies : List Reply) →
     AreStepsAndTransit l place commands replies → shown_count replies ≤ sum_by asked_count commands
 steps-shown l place [] replies h =
-    let none : shown_count replies ≡ 0 = ap shown_count h ∙ transit-shown l in
+    let none : shown_count replies ≡ 0 = ap shown_count h ∙ transit-none shown_by (λ channel slot. refl) l in
     omega (arith, none)
 steps-shown l place (asked ∷ commands) [] h = absurd h
 steps-shown l place (asked ∷ commands) (reply ∷ replies) h =
@@ -120,3 +122,52 @@ steps-shown l place (asked ∷ commands) (reply ∷ replies) h =
 pub run-shown : (settings : Settings) (commands : List Command) (replies : List Reply) →
     IsRun settings commands replies → shown_count replies ≤ sum_by asked_count commands
 run-shown settings commands replies h = steps-shown (first_ledger settings) 1 commands replies h
+
+-- ---- the answers
+
+loan-answers : (l : Ledger) (name : ℕ) (reply : Reply) → IsLoan l name reply → answer_count reply ≡ 1
+loan-answers l name (Loaned slot) h = refl
+loan-answers l name Written h = absurd h
+loan-answers l name (Sent back) h = absurd h
+loan-answers l name (Received slot) h = absurd h
+loan-answers l name (Shown bytes) h = absurd h
+loan-answers l name Released h = absurd h
+loan-answers l name (Reclaimed back) h = absurd h
+loan-answers l name Discarded h = absurd h
+loan-answers l name (Counted count) h = absurd h
+loan-answers l name (Refused refusal) h = absurd h
+loan-answers l name (Transit channel slot) h = absurd h
+
+owed-answers : (l : Ledger) (place : ℕ) (asked : Command) (reply : Reply) → Owes l place asked reply →
+    answer_count reply ≡ 1
+owed-answers l place (command.Loan size alignment) reply h =
+    loan-answers (grown_ledger l size alignment) place reply h
+owed-answers l place (command.Write name at bytes) reply h = ap answer_count h
+owed-answers l place (command.Send channel name) reply h = ap answer_count h
+owed-answers l place (command.Receive channel) reply h = ap answer_count h
+owed-answers l place (command.Read channel name at n) reply h = ap answer_count h
+owed-answers l place (command.Release channel name) reply h = ap answer_count h
+owed-answers l place (command.Reclaim channel) reply h = ap answer_count h
+owed-answers l place (command.Discard name) reply h = ap answer_count h
+owed-answers l place command.Count reply h = ap answer_count h
+
+answer-answers : (why : Option Refusal) (l : Ledger) (place : ℕ) (asked : Command) (reply : Reply) →
+    IsStepBy why l place asked reply → answer_count reply ≡ 1
+answer-answers None l place asked reply h = owed-answers l place asked reply h
+answer-answers (Some refusal) l place asked reply h = ap answer_count h
+
+steps-answers : (l : Ledger) (place : ℕ) (commands : List Command) (replies : List Reply) →
+    AreStepsAndTransit l place commands replies → sum_by answer_count replies ≡ length commands
+steps-answers l place [] replies h =
+    ap (sum_by answer_count) h ∙ transit-none answer_count (λ channel slot. refl) l
+steps-answers l place (asked ∷ commands) [] h = absurd h
+steps-answers l place (asked ∷ commands) (reply ∷ replies) h =
+    let one : answer_count reply ≡ 1 = answer-answers (cause l asked) l place asked reply h.0 in
+    let others : sum_by answer_count replies ≡ length commands =
+    steps-answers (after_step l place asked reply) (place + 1) commands replies h.1 in
+    sum_by-cons answer_count reply replies ∙ omega (arith, one, others)
+
+-- a run has as many answers as commands
+pub run-answers : (settings : Settings) (commands : List Command) (replies : List Reply) →
+    IsRun settings commands replies → (summary_of replies).answered ≡ length commands
+run-answers settings commands replies h = steps-answers (first_ledger settings) 1 commands replies h

@@ -92,5 +92,5 @@ summary_of-all s replies place past answered refused transit total =
 -- the parts of the line, one after another
 pub summary-parts : (shown a b c d e f g h : List ℕ) →
     ((((((((shown ++ a) ++ b) ++ c) ++ d) ++ e) ++ f) ++ g) ++ h) ++ 10 ∷ [] ≡
-    shown ++ (((((((a ++ b) ++ c) ++ d) ++ e) ++ f) ++ g) ++ h) ++ 10 ∷ []
+    shown ++ ((((((((a ++ b) ++ c) ++ d) ++ e) ++ f) ++ g) ++ h) ++ 10 ∷ [])
 summary-parts shown a b c d e f g h = simp append_assoc

@@ -8,9 +8,10 @@ use cal_alloc::AllocationStrategy;
 use cal_transport::{Bytes, Command, Settings};
 use std::alloc::{AllocError, Global};
 
-/// What the states are multiplied by, and what is added then.
+/// What a state is multiplied by.
 const MULTIPLIER: u64 = 6_364_136_223_846_793_005;
 
+/// What is added then.
 const INCREMENT: u64 = 1_442_695_040_888_963_407;
 
 /// How many commands a round has.

@@ -81,12 +81,7 @@ fn print_run<S: Sink>(
         (run_text request replies.now.items) }
 {
     match request {
-        Some(
-            Request::Make {
-                number: _,
-                rounds: _,
-            },
-        ) => print_summary(buffer, sink, Summary::of(replies)),
+        Some(Request::Make { .. }) => print_summary(buffer, sink, Summary::of(replies)),
         Some(Request::Run) | None => print_replies(buffer, sink, replies),
     }
 }

@@ -46,14 +46,11 @@ impl Summary {
         ensures answered { self.new.answered ≡ self.old.answered + answer_count reply.now }
         ensures refused { self.new.refused ≡ self.old.refused + refusal_count reply.now }
         ensures transit { self.new.transit ≡ self.old.transit + transit_count reply.now }
-        ensures sum { self.new.sum ≡ self.old.sum + sum (shown_bytes reply.now) }
+        ensures total { self.new.sum ≡ self.old.sum + sum (shown_bytes reply.now) }
         ensures bound { self.new.sum ≤ self.old.sum + 255 * length (shown_bytes reply.now) }
     {
         match reply {
-            Reply::Transit {
-                channel: _,
-                slot: _,
-            } => self.transit += 1,
+            Reply::Transit { .. } => self.transit += 1,
             Reply::Refused(_) => {
                 self.answered += 1;
                 self.refused += 1;

@@ -13,8 +13,6 @@ add-requires-clause-sum_fits c =
     in
     omega (
       arith,
-      c.requires,
-      c.loop-place.invariant.total_few,
       sum_by-within (λ (reply : Reply). length (shown_bytes reply)) c.args.replies.now.items c.loop-place.place
           c.unwrap-reply.result.now found,
     )
@@ -34,7 +32,7 @@ loop-place-preserved c =
           ∙ sym (sum_by-next refusal_count items place reply found);
       transit = c.add.ensures.transit ∙ ap (λ (n : ℕ). n + transit_count reply) before.transit
           ∙ sym (sum_by-next transit_count items place reply found);
-      total = c.add.ensures.sum ∙ ap (λ (n : ℕ). n + sum (shown_bytes reply)) before.total
+      total = c.add.ensures.total ∙ ap (λ (n : ℕ). n + sum (shown_bytes reply)) before.total
           ∙ sym (sum_by-next (λ (r : Reply). sum (shown_bytes r)) items place reply found);
       answered_few = omega (arith, c.add.ensures.answered, before.answered_few, answer_count-few reply);
       refused_few = omega (arith, c.add.ensures.refused, before.refused_few, refusal_count-few reply);
