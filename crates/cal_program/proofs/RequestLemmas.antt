@@ -1,5 +1,5 @@
 -- What words may ask for, and that the text of a made run can be told.
-use Rattle.std.proofs.Common.{◌≡◌, ◌≢◌, ℕ, ◌<◌, ◌≤◌, ◌^◌, Bool, true, false, List, [], ◌∷◌, length, get_or, map, Option, Some, None, refl, sym, ap, ◌∙◌, arith}
+use Rattle.std.proofs.Common.{◌≡◌, ◌≢◌, ℕ, ◌≤◌, Bool, true, false, List, [], ◌∷◌, length, get_or, map, Option, Some, None, refl, sym, ap, ◌∙◌, arith}
 use Rattle.std.specs.Prelude.{if◌then◌else◌, nat_le, codes, bytes_eq}
 use Rattle.std.proofs.lemmas.Bool.{leb-true}
 use Rattle.cal_transport.specs.declared.reply.Reply.{Reply}

@@ -1,4 +1,4 @@
-use Rattle.std.proofs.Common.{◌≡◌, ◌*◌, ◌≤◌, length, take}
+use Rattle.std.proofs.Common.{◌≡◌, ◌*◌, ◌≤◌, take}
 use Rattle.std.specs.Prelude.{sum}
 use Rattle.std.specs.List.{sum_by}
 use Rattle.cal_program.specs.Summary.{answer_count, refusal_count, transit_count, shown_bytes, shown_count}
