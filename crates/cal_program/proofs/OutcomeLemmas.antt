@@ -194,6 +194,14 @@ if-told : (left : Option (List ℕ)) (P : List ℕ → Type 0) → ((xs : List �
 if-told None P f = tt
 if-told (Some xs) P f = f xs refl
 
+-- what was asked for by another name
+pub EndsDue-same : (asked request : Option Request) → asked ≡ request → (before now : SourceState)
+    (sink_before sink_now : SinkState) (status : Status) (replies : List Reply) (end : Option TransportState) →
+    EndsDue asked before now sink_before sink_now status replies end →
+    EndsDue request before now sink_before sink_now status replies end
+EndsDue-same asked request same before now sink_before sink_now status replies end h = subst
+    (λ (r : Option Request). EndsDue r before now sink_before sink_now status replies end) same h
+
 pub EndsDue-right : (request : Option Request) (before now : SourceState) (sink_before sink_now : SinkState)
     (status : Status) (replies : List Reply) (end : Option TransportState) →
     EndsDue request before now sink_before sink_now status replies end →

@@ -1,5 +1,5 @@
 -- What words may ask for, and that the text of a made run can be told.
-use Rattle.std.proofs.Common.{◌≡◌, ◌≢◌, ℕ, ◌≤◌, Bool, true, false, List, [], ◌∷◌, length, get_or, map, Option, Some, None, refl, sym, ap, ◌∙◌, arith}
+use Rattle.std.proofs.Common.{◌≡◌, ◌≢◌, ℕ, ◌≤◌, Bool, true, false, List, [], ◌∷◌, length, get_or, map, Option, Some, None, refl, sym, ap, subst, ◌∙◌, arith}
 use Rattle.std.specs.Prelude.{if◌then◌else◌, nat_le, codes, bytes_eq}
 use Rattle.std.proofs.lemmas.Bool.{leb-true}
 use Rattle.cal_transport.specs.declared.reply.Reply.{Reply}
@@ -9,7 +9,7 @@ use Rattle.cal_program.specs.declared.request.Request.TheVariants.{Run, Make}
 use Rattle.cal_program.specs.declared.status.Status.{Status}
 use Rattle.cal_program.specs.declared.status.Status.TheVariants.{Done, BadScript, NotCreated, ReadFault, WriteFault, NoMemory, Usage, TooLong}
 use Rattle.cal_program.specs.Words.{◌>>=◌, number_of, at_most}
-use Rattle.cal_program.specs.Request.{rounds_limit, run_request, made_request, make_request, request_of}
+use Rattle.cal_program.specs.Request.{rounds_limit, run_request, made_request, make_request, request_of, HasFewRounds}
 use Rattle.cal_program.specs.Streams.{SourceState}
 use Rattle.cal_program.specs.Outcome.{IsDue, CanBeTold}
 use Rattle.cal_program.proofs.MadeLemmas.{made-shown}
@@ -71,34 +71,37 @@ run-few : (test : Bool) (number rounds : ℕ) → (if test then Some Run else No
 run-few true number rounds e = absurd cc
 run-few false number rounds e = absurd cc
 
-request_of-few : (words : List (List ℕ)) (number rounds : ℕ) → request_of words ≡ Some (Make number rounds) →
+words-few : (words : List (List ℕ)) (number rounds : ℕ) → request_of words ≡ Some (Make number rounds) →
     rounds ≤ 10000
-request_of-few [] number rounds e = absurd cc
-request_of-few (a ∷ []) number rounds e = run-few (bytes_eq a (codes "run")) number rounds e
-request_of-few (a ∷ b ∷ []) number rounds e = absurd cc
-request_of-few (a ∷ b ∷ c ∷ []) number rounds e = make-few (bytes_eq a (codes "make")) b c number rounds e
-request_of-few (a ∷ b ∷ c ∷ d ∷ words) number rounds e = absurd cc
+words-few [] number rounds e = absurd cc
+words-few (a ∷ []) number rounds e = run-few (bytes_eq a (codes "run")) number rounds e
+words-few (a ∷ b ∷ []) number rounds e = absurd cc
+words-few (a ∷ b ∷ c ∷ []) number rounds e = make-few (bytes_eq a (codes "make")) b c number rounds e
+words-few (a ∷ b ∷ c ∷ d ∷ words) number rounds e = absurd cc
+
+few-by : (request : Option Request) →
+    ((number rounds : ℕ) → request ≡ Some (Make number rounds) → rounds ≤ 10000) → HasFewRounds request
+few-by None few = tt
+few-by (Some Run) few = tt
+few-by (Some (Make number rounds)) few = few number rounds refl
+
+pub request_of-few : (asked : Option Request) (words : List (List ℕ)) → asked ≡ request_of words → HasFewRounds asked
+request_of-few asked words same =
+    subst (λ (r : Option Request). HasFewRounds r) (sym same) (few-by (request_of words) (words-few words))
 
 -- ---- the text can be told
 
-told-by : (request : Option Request) (before now : SourceState) (status : Status) (replies : List Reply)
-    (end : Option TransportState) →
-    ((number rounds : ℕ) → request ≡ Some (Make number rounds) → rounds ≤ 10000) →
-    IsDue request before now status replies end → CanBeTold request status replies
-told-by None before now status replies end few h = tt
-told-by (Some Run) before now status replies end few h = tt
-told-by (Some (Make number rounds)) before now Done replies end few h =
-    omega (arith, few number rounds refl, made-shown number rounds replies h.1.1)
-told-by (Some (Make number rounds)) before now (BadScript line) replies end few h = tt
-told-by (Some (Make number rounds)) before now (NotCreated cause) replies end few h = tt
-told-by (Some (Make number rounds)) before now ReadFault replies end few h = tt
-told-by (Some (Make number rounds)) before now WriteFault replies end few h = tt
-told-by (Some (Make number rounds)) before now NoMemory replies end few h = tt
-told-by (Some (Make number rounds)) before now Usage replies end few h = tt
-told-by (Some (Make number rounds)) before now TooLong replies end few h = tt
-
-pub due-told : (words : List (List ℕ)) (before now : SourceState) (status : Status) (replies : List Reply)
-    (end : Option TransportState) → IsDue (request_of words) before now status replies end →
-    CanBeTold (request_of words) status replies
-due-told words before now status replies end h =
-    told-by (request_of words) before now status replies end (request_of-few words) h
+pub due-told : (request : Option Request) (before now : SourceState) (status : Status) (replies : List Reply)
+    (end : Option TransportState) → HasFewRounds request → IsDue request before now status replies end →
+    CanBeTold request status replies
+due-told None before now status replies end few h = tt
+due-told (Some Run) before now status replies end few h = tt
+due-told (Some (Make number rounds)) before now Done replies end few h =
+    omega (arith, few, made-shown number rounds replies h.1.1)
+due-told (Some (Make number rounds)) before now (BadScript line) replies end few h = tt
+due-told (Some (Make number rounds)) before now (NotCreated cause) replies end few h = tt
+due-told (Some (Make number rounds)) before now ReadFault replies end few h = tt
+due-told (Some (Make number rounds)) before now WriteFault replies end few h = tt
+due-told (Some (Make number rounds)) before now NoMemory replies end few h = tt
+due-told (Some (Make number rounds)) before now Usage replies end few h = tt
+due-told (Some (Make number rounds)) before now TooLong replies end few h = tt

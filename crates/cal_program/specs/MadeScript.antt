@@ -39,7 +39,7 @@ state_after number (suc rounds) = next_state (state_after number rounds)
 abbrev pub draw_of : ℕ → Draw
 draw_of state =
     let bits = state / 2 ^ 33 in
-    record { size = 1 + bits % 64; byte = bits / 64 % 256; channel = bits / 16384 % 2 }
+    record { size = 1 + bits % 64; byte = (bits / 64) % 256; channel = (bits / 16384) % 2 }
 
 -- ---- the commands
 

@@ -1,5 +1,5 @@
 -- What the words of a command line ask for.
-use Rattle.std.specs.Prelude.{ℕ, if◌then◌else◌, List, [], ◌∷◌, Option, Some, None, codes, bytes_eq}
+use Rattle.std.specs.Prelude.{ℕ, ◌≤◌, if◌then◌else◌, List, [], ◌∷◌, Option, Some, None, codes, bytes_eq}
 use Rattle.cal_program.specs.declared.request.Request.{Request}
 use Rattle.cal_program.specs.declared.request.Request.TheVariants.{Run, Make}
 use Rattle.cal_program.specs.Words.{◌>>=◌, number_of, at_most}
@@ -30,3 +30,8 @@ abbrev pub request_of : List (List ℕ) → Option Request
 request_of (word ∷ []) = run_request word
 request_of (word ∷ number ∷ rounds ∷ []) = make_request word number rounds
 request_of words = None
+
+-- what was asked for has few rounds, if it has some
+abbrev pub HasFewRounds : Option Request → Type 0
+HasFewRounds (Some (Make number rounds)) = rounds ≤ rounds_limit
+HasFewRounds request = Unit {0}

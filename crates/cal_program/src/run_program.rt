@@ -2,7 +2,7 @@
 
 ghost use Rattle.std.specs.Prelude.{◌≡◌, ◌≢◌, [], map, string_bytes, Some, None};
 ghost use Rattle.cal_program.specs.MadeScript.{made_script};
-ghost use Rattle.cal_program.specs.Request.{request_of};
+ghost use Rattle.cal_program.specs.Request.{request_of, HasFewRounds};
 ghost use Rattle.cal_program.specs.Outcome.{IsOutcomeOfScript, IsOutcomeOfBytes, IsDueOfRun, IsDue, EndsDue, IsExact, AreDueReplies, run_text};
 ghost use Rattle.cal_program.specs.Streams.{PutsAll};
 
@@ -46,20 +46,21 @@ pub fn run_program<R: Source, W: Sink>(
     ensures exact { IsExact (request_of (map string_bytes words.now)) (R.state source.old) (R.state source.new)
         (W.state sink.old) (W.state sink.new) result.status }
 {
-    run_and_print(alloc, words, source, sink)
+    let request = request_of(words);
+    run_and_print(alloc, request, source, sink)
 }
 
-/// The same, by what is due and written.
+/// The same of what was asked for, by what is due and written.
 fn run_and_print<R: Source, W: Sink>(
     alloc: Global,
-    words: &[String],
+    request: Option<Request>,
     source: &mut R,
     sink: &mut W,
 ) -> Outcome
-    ensures { EndsDue (request_of (map string_bytes words.now)) (R.state source.old) (R.state source.new)
+    requires few { HasFewRounds request }
+    ensures ends { EndsDue request (R.state source.old) (R.state source.new)
         (W.state sink.old) (W.state sink.new) result.status result.replies.items result.end }
 {
-    let request = request_of(words);
     let due = due_outcome(alloc, request, source);
     if print_outcome(request, &due, sink).is_err() {
         return Outcome {
