@@ -5,6 +5,7 @@ use Rattle.std.proofs.lemmas.Grind.{flat_map-append}
 use Rattle.std.proofs.lemmas.List.{append-nil}
 use Rattle.std.proofs.lemmas.List.Sums.{sum_by-append}
 use Rattle.std.proofs.Math.Nat.{mod-add-mod}
+use lib.Count.{ones}
 use Rattle.cal_transport.specs.declared.command.Command.{Command}
 use Rattle.cal_transport.specs.declared.command.Command.TheVariants.{Loan, Write, Send, Discard, Receive, Read, Release, Reclaim}
 use Rattle.cal_transport.specs.declared.reply.Reply.{Reply}
@@ -17,6 +18,7 @@ use Rattle.cal_program.specs.Summary.{shown_count, summary_of}
 use Rattle.cal_program.proofs.ShownLemmas.{asked_count, run-shown, run-answers}
 
 pub made_settings-fine : create_cause made_settings ≡ None
+unfolding ones
 made_settings-fine = refl
 
 -- a product that wraps, and then a sum that wraps

@@ -1,5 +1,5 @@
 -- A run shows no more bytes than its commands ask for, and answers each of them.
-use Rattle.std.proofs.Common.{◌≡◌, ℕ, ◌+◌, ◌≤◌, List, [], ◌∷◌, length, drop, map, Option, Some, None, refl, sym, ap, ◌∙◌, subst, arith}
+use Rattle.std.proofs.Common.{◌≡◌, ℕ, ◌+◌, ◌≤◌, List, [], ◌∷◌, ◌++◌, length, drop, map, Option, Some, None, refl, sym, ap, ◌∙◌, subst, arith}
 use Rattle.std.specs.List.{sum_by, flat_map}
 use Rattle.std.proofs.lemmas.List.{length-take}
 use Rattle.std.proofs.lemmas.List.Sums.{sum_by-cons, sum_by-append}
@@ -81,9 +81,11 @@ lines-none : (f : Reply → ℕ) → ((channel : ℕ) (slot : Slot) → f (Trans
 lines-none f none l channel [] = refl
 lines-none f none l channel (chunk ∷ chunks) =
     let others = map (λ (c : Chunk). Transit channel (slot_of l c)) chunks in
-    sum_by-cons f (Transit channel (slot_of l chunk)) others
-    ∙ ap (λ (n : ℕ). n + sum_by f others) (none channel (slot_of l chunk))
-    ∙ lines-none f none l channel chunks
+    let first : f (Transit channel (slot_of l chunk)) ≡ 0 = none channel (slot_of l chunk) in
+    let rest : sum_by f others ≡ 0 = lines-none f none l channel chunks in
+    let all : sum_by f (Transit channel (slot_of l chunk) ∷ others) ≡ f (Transit channel (slot_of l chunk)) + sum_by f others
+        = sum_by-cons f (Transit channel (slot_of l chunk)) others in
+    omega (arith, first, rest, all)
 
 channels-none : (f : Reply → ℕ) → ((channel : ℕ) (slot : Slot) → f (Transit channel slot) ≡ 0) → (l : Ledger)
     (channels : List ℕ) → sum_by f
@@ -93,9 +95,10 @@ channels-none f none l (channel ∷ channels) =
     let first = map (λ (chunk : Chunk). Transit channel (slot_of l chunk)) (transit_on l channel) in
     let others = flat_map
     (λ (c : ℕ). map (λ (chunk : Chunk). Transit c (slot_of l chunk)) (transit_on l c)) channels in
-    sum_by-append f first others
-    ∙ ap (λ (n : ℕ). n + sum_by f others) (lines-none f none l channel (transit_on l channel))
-    ∙ channels-none f none l channels
+    let here : sum_by f first ≡ 0 = lines-none f none l channel (transit_on l channel) in
+    let rest : sum_by f others ≡ 0 = channels-none f none l channels in
+    let all : sum_by f (first ++ others) ≡ sum_by f first + sum_by f others = sum_by-append f first others in
+    omega (arith, here, rest, all)
 
 transit-none : (f : Reply → ℕ) → ((channel : ℕ) (slot : Slot) → f (Transit channel slot) ≡ 0) → (l : Ledger) →
     sum_by f (transit_list l) ≡ 0

@@ -62,14 +62,14 @@ fn run_and_print<R: Source, W: Sink>(
         (W.state sink.old) (W.state sink.new) result.status result.replies.items result.end }
 {
     let due = due_outcome(alloc, request, source);
-    if print_outcome(request, &due, sink).is_err() {
-        return Outcome {
+    match print_outcome(request, &due, sink) {
+        Ok(()) => due,
+        Err(_) => Outcome {
             status: Status::WriteFault,
             replies: due.replies,
             end: due.end,
-        };
+        },
     }
-    due
 }
 
 /// What is due to be written.
