@@ -84,7 +84,7 @@ lines-none f none l channel (chunk ∷ chunks) =
     let first : f (Transit channel (slot_of l chunk)) ≡ 0 = none channel (slot_of l chunk) in
     let rest : sum_by f others ≡ 0 = lines-none f none l channel chunks in
     let all : sum_by f (Transit channel (slot_of l chunk) ∷ others) ≡ f (Transit channel (slot_of l chunk)) + sum_by f others
-        = sum_by-cons f (Transit channel (slot_of l chunk)) others in
+    = sum_by-cons f (Transit channel (slot_of l chunk)) others in
     omega (arith, first, rest, all)
 
 channels-none : (f : Reply → ℕ) → ((channel : ℕ) (slot : Slot) → f (Transit channel slot) ≡ 0) → (l : Ledger)

@@ -125,8 +125,8 @@ EndsDue request source_before source_now sink_before sink_now status replies end
 
 -- ---- when each status comes
 
--- A status may come in place of the due one: a fault, where the count of faults rose, and out of memory, where something
--- was to be run.
+-- A status may come in place of the due one: a fault, where the count of faults rose, and out of memory, where
+-- something was to be run.
 abbrev pub IsExcused : Option Request → SourceState → SourceState → SinkState → SinkState → Status → Type 0
 IsExcused request source_before source_now sink_before sink_now ReadFault =
     (request ≡ Some Run) × Rose source_before.faults source_now.faults

@@ -19,8 +19,8 @@ use std::alloc::Global;
 
 /// Runs the program. With the one word `run` it reads the source to its end, runs the script that it has, and puts the
 /// replies into the sink. With `make NUMBER ROUNDS` it leaves the source alone, runs the script that is made of the two
-/// numbers, and puts one line into the sink that says what the replies come to. Where it doesn't come so far, the status
-/// says why, and its text is put into the sink.
+/// numbers, and puts one line into the sink that says what the replies come to. Where it doesn't come so far, the
+/// status says why, and its text is put into the sink.
 pub fn run_program<R: Source, W: Sink>(
     alloc: Global,
     words: &[String],
