@@ -1,5 +1,5 @@
 -- What words may ask for, and that the text of a made run can be told.
-use Rattle.std.proofs.Common.{◌≡◌, ◌≢◌, ℕ, ◌≤◌, Bool, true, false, List, [], ◌∷◌, length, get_or, map, Option, Some, None, refl, sym, ap, subst, ◌∙◌, arith}
+use Rattle.std.proofs.Common.{◌≡◌, ℕ, ◌≤◌, Bool, true, false, List, [], ◌∷◌, Option, Some, None, refl, sym, subst, arith}
 use Rattle.std.specs.Prelude.{if◌then◌else◌, nat_le, codes, bytes_eq}
 use Rattle.std.proofs.lemmas.Bool.{leb-true}
 use Rattle.cal_transport.specs.declared.reply.Reply.{Reply}
@@ -9,41 +9,10 @@ use Rattle.cal_program.specs.declared.request.Request.TheVariants.{Run, Make}
 use Rattle.cal_program.specs.declared.status.Status.{Status}
 use Rattle.cal_program.specs.declared.status.Status.TheVariants.{Done, BadScript, NotCreated, ReadFault, WriteFault, NoMemory, Usage, TooLong}
 use Rattle.cal_program.specs.Words.{◌>>=◌, number_of, at_most}
-use Rattle.cal_program.specs.Request.{rounds_limit, run_request, made_request, make_request, request_of, HasFewRounds}
+use Rattle.cal_program.specs.Request.{rounds_limit, made_request, request_of, HasFewRounds}
 use Rattle.cal_program.specs.Streams.{SourceState}
 use Rattle.cal_program.specs.Outcome.{IsDue, CanBeTold}
 use Rattle.cal_program.proofs.MadeLemmas.{made-shown}
-
--- ---- words by their number
-
--- one word
-pub one-form : {X : Type 0} (f : X → List ℕ) (words : List X) (word : X) → length words ≡ 1 →
-    word ≡ get_or words 0 word → request_of (map f words) ≡ run_request (f word)
-one-form f [] word one here = absurd (omega (arith, one))
-one-form f (a ∷ []) word one here = ap (λ x. run_request (f x)) (sym here)
-one-form f (a ∷ b ∷ words) word one here = absurd (omega (arith, one))
-
--- three words
-pub three-form : {X : Type 0} (f : X → List ℕ) (words : List X) (a b c : X) → length words ≡ 3 →
-    a ≡ get_or words 0 a → b ≡ get_or words 1 b → c ≡ get_or words 2 c →
-    request_of (map f words) ≡ make_request (f a) (f b) (f c)
-three-form f [] a b c three first second third = absurd (omega (arith, three))
-three-form f (x ∷ []) a b c three first second third = absurd (omega (arith, three))
-three-form f (x ∷ y ∷ []) a b c three first second third = absurd (omega (arith, three))
-three-form f (x ∷ y ∷ z ∷ []) a b c three first second third =
-    ap (λ v. make_request (f v) (f y) (f z)) (sym first)
-    ∙ ap (λ v. make_request (f a) (f v) (f z)) (sym second)
-    ∙ ap (λ v. make_request (f a) (f b) (f v)) (sym third)
-three-form f (x ∷ y ∷ z ∷ w ∷ words) a b c three first second third = absurd (omega (arith, three))
-
--- any other number of words has no form
-pub other-form : {X : Type 0} (f : X → List ℕ) (words : List X) → length words ≢ 1 → length words ≢ 3 →
-    request_of (map f words) ≡ None
-other-form f [] one three = refl
-other-form f (a ∷ []) one three = absurd (one refl)
-other-form f (a ∷ b ∷ []) one three = refl
-other-form f (a ∷ b ∷ c ∷ []) one three = absurd (three refl)
-other-form f (a ∷ b ∷ c ∷ d ∷ words) one three = refl
 
 -- ---- the rounds are few
 

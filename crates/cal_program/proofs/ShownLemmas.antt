@@ -81,10 +81,10 @@ lines-none : (f : Reply → ℕ) → ((channel : ℕ) (slot : Slot) → f (Trans
 lines-none f none l channel [] = refl
 lines-none f none l channel (chunk ∷ chunks) =
     let others = map (λ (c : Chunk). Transit channel (slot_of l c)) chunks in
-    let first : f (Transit channel (slot_of l chunk)) ≡ 0 = none channel (slot_of l chunk) in
+    let line = Transit channel (slot_of l chunk) in
+    let first : f line ≡ 0 = none channel (slot_of l chunk) in
     let rest : sum_by f others ≡ 0 = lines-none f none l channel chunks in
-    let all : sum_by f (Transit channel (slot_of l chunk) ∷ others) ≡ f (Transit channel (slot_of l chunk)) + sum_by f others
-    = sum_by-cons f (Transit channel (slot_of l chunk)) others in
+    let all : sum_by f (line ∷ others) ≡ f line + sum_by f others = sum_by-cons f line others in
     omega (arith, first, rest, all)
 
 channels-none : (f : Reply → ℕ) → ((channel : ℕ) (slot : Slot) → f (Transit channel slot) ≡ 0) → (l : Ledger)

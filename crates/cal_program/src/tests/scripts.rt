@@ -83,7 +83,7 @@ fn assert_transit(
     assert!(rt; text.lines().count() == replies.saturating_add(slots.len()));
     for (line, (channel, segment, place, chunk)) in text.lines().skip(replies).zip(&slots) {
         let due = format!(in rt.alloc(); "transit {channel} {chunk} {segment}:{place}")?;
-        assert!(rt; line == due.as_str(), "{line} in place of {due}");
+        assert!(rt; line == due.as_str());
     }
     Ok(())
 }

@@ -50,6 +50,6 @@ returns c =
     let last = c.loop-place.invariant in
     record {
       value = summary_of-all c.loop-place.summary c.args.replies.now.items c.loop-place.place
-          (omega (arith, c.loop-place-test.false, c.len-place-end.ensures.count)) last.answered last.refused last.transit
-          last.total;
+          (omega (arith, c.loop-place-test.false, c.len-place-end.ensures.count))
+          last.answered last.refused last.transit last.total;
     }
