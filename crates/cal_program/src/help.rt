@@ -7,10 +7,12 @@ pub const VERSION: &str = "cal_program 0.1.0\n";
 pub const HELP: &str = "\
 usage: run, make NUMBER ROUNDS, relay BUFFER COUNT
 
-run  reads a script from standard input and writes the replies to its commands.
+run  reads a script from standard input and writes the replies to its commands:
+       cal_program run < script
 make runs a script that is made from the two numbers, eight commands a round and at
      most 10000 rounds, and writes replies A refused B transit C sum D: the answers,
-     the refusals among them, the chunks in transit, and the sum of all bytes read.
+     the refusals among them, the chunks in transit, and the sum of all bytes read:
+       cal_program make 1 10000
 relay isn't served yet.
 
 A script has one line for the settings, and then one line for each command. Words
