@@ -4,16 +4,11 @@ use Rattle.std.specs.Bool.{OnFalse, OnTrue}
 use Rattle.std.proofs.Common.{refl, sym, ap, ◌∙◌, subst, inl, inr}
 use Rattle.std.proofs.lemmas.Bool.Decides.{eqb_tells}
 use Rattle.cal_queue.specs.StateAnswers.{LeftMark, LeftOther, WasAbsent}
-use Rattle.cal_queue.specs.StateTable.{after_step, exchange_step, load_step, write_step}
+use Rattle.cal_queue.specs.StateTable.{after_step, channel_index, exchange_step, load_step, write_step}
 use Rattle.cal_queue.specs.declared.state_table.pass.StatePass.{StatePass}
 use Rattle.cal_queue.specs.declared.state_table.pass.StateStep.{StateStep}
-use Rattle.cal_shared.specs.Words.{ExchangesWord, Leaves}
-
--- the word that it saw, its step, and whether it won
-pub record Exchanged (index expected word : ℕ) (won : Bool) (before after : StatePass) : Type 0 where
-  pub seen : ℕ
-  pub step : after ≡ after_step before (exchange_step index expected word seen)
-  pub won_where_expected : won ≡ (seen == expected)
+use Rattle.cal_connection.specs.Words.{closed, with_hint}
+use Rattle.cal_shared.specs.Words.{ClosesChannel, Exchanged, ExchangesWord, Leaves, SetsHint, SetsState}
 
 module _ (index expected word : ℕ) (before after : StatePass) where
   exchange_step-won : exchange_step index expected word expected ≡ write_step index expected word
@@ -67,3 +62,65 @@ pub Leaves-by_answer : (bit : ℕ) (marked : Bool) (before after : StatePass)
     → OnFalse marked (LeftOther bit before after ⊎ WasAbsent bit before after) → Leaves bit marked before after
 Leaves-by_answer bit true before after mark other = mark
 Leaves-by_answer bit false before after mark other = other
+
+-- a channel was closed by one exchange, or by a second where the first was lost
+module _ (channel state : ℕ) (before first after : StatePass) (won : Bool)
+    (exchanged : Exchanged (channel_index channel) state closed won before first) where
+  by_won : MatchBool won (after ≡ first) (ExchangesWord (channel_index channel) (with_hint state) closed first after)
+      → ClosesChannel channel state before after
+  by_won second = record {
+    seen = exchanged.seen;
+    first = first;
+    step = exchanged.step;
+    second =
+        subst
+        (λ (b : Bool).
+        MatchBool b (after ≡ first) (ExchangesWord (channel_index channel) (with_hint state) closed first after))
+        exchanged.won_where_expected second;
+  }
+
+  pub ClosesChannel-once : won ≡ true → after ≡ first → ClosesChannel channel state before after
+  ClosesChannel-once is same =
+      by_won (subst
+      (λ (b : Bool).
+      MatchBool b (after ≡ first) (ExchangesWord (channel_index channel) (with_hint state) closed first after))
+      (sym is) same)
+
+  pub ClosesChannel-twice : won ≡ false
+      → ExchangesWord (channel_index channel) (with_hint state) closed first after
+      → ClosesChannel channel state before after
+  ClosesChannel-twice is second =
+      by_won (subst
+      (λ (b : Bool).
+      MatchBool b (after ≡ first) (ExchangesWord (channel_index channel) (with_hint state) closed first after))
+      (sym is) second)
+
+-- a state was set where the closed word was seen
+pub SetsState-exchanged : (channel channel' state state' : ℕ) (acted : Bool) (before after : StatePass)
+    → channel' ≡ channel → state' ≡ state
+    → Exchanged (channel_index channel') closed state' acted before after → SetsState channel state acted before after
+SetsState-exchanged channel channel' state state' acted before after on to exchanged =
+    subst (λ (c : ℕ). SetsState c state acted before after) on
+    (subst (λ (s : ℕ). SetsState channel' s acted before after) to (record {
+      seen = exchanged.seen;
+      step = exchanged.step;
+      acted_if_closed = exchanged.won_where_expected;
+    }))
+
+-- the hint was set where the state was seen
+pub SetsHint-exchanged : (channel channel' state state' hinted : ℕ) (won : Bool) (before after : StatePass)
+    → channel' ≡ channel → state' ≡ state → hinted ≡ with_hint state'
+    → Exchanged (channel_index channel') state' hinted won before after → SetsHint channel state before after
+SetsHint-exchanged channel channel' state state' hinted won before after on to with exchanged =
+    subst (λ (c : ℕ). SetsHint c state before after) on
+    (subst (λ (s : ℕ). SetsHint channel' s before after) to
+    (subst (λ (h : ℕ). ExchangesWord (channel_index channel') state' h before after) with
+    (record { seen = exchanged.seen; step = exchanged.step })))
+
+pub ClosesChannel-named : (channel channel' state state' : ℕ) (before after : StatePass)
+    → channel' ≡ channel → state' ≡ state → ClosesChannel channel' state' before after
+    → ClosesChannel channel state before after
+ClosesChannel-named channel channel' state state' before after on to closes =
+    subst (λ (c : ℕ). ClosesChannel c state before after) on
+    (subst (λ (s : ℕ). ClosesChannel channel' s before after) to closes)
+

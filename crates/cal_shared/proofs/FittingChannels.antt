@@ -1,6 +1,6 @@
 -- What a sender's channels are known to have, since they fit the settings.
-use Rattle.std.specs.Prelude.{◌≡◌, ℕ, ◌*◌, ◌<◌, ◌≤◌, true, List, [], length, map, All, Option, Some, slice_get, slice_index_or, unwrap_or}
-use Rattle.std.proofs.Common.{sym, ap, ◌∙◌, subst, arith}
+use Rattle.std.specs.Prelude.{◌≡◌, ℕ, ◌*◌, ◌<◌, ◌≤◌, true, List, [], ◌∷◌, length, map, All, Option, Some, slice_get, slice_index_or, unwrap_or}
+use Rattle.std.proofs.Common.{refl, sym, ap, ◌∙◌, subst, arith}
 use Rattle.std.proofs.Math.ListN.{get_or-map}
 use Rattle.std.proofs.lemmas.List.{get_or-replicate, length-map, length-replicate}
 use Rattle.std.proofs.lemmas.List.Elements.{All-map}
@@ -12,8 +12,8 @@ use Rattle.cal_connection.specs.ShapeLemmas.{shape-after_acquire}
 use Rattle.cal_connection.specs.declared.segment_details.SegmentDetails.{SegmentDetails}
 use Rattle.cal_connection.specs.declared.settings.ConnectionSettings.{ConnectionSettings}
 use Rattle.cal_shared.specs.Acquiring.{FitsChannels, IsAcquirable, after_acquire, after_acquiring}
-use Rattle.cal_shared.specs.Channels.{FitsSender, SendingChannel}
-use Rattle.cal_shared.specs.Port.{IsSoundPort, SendingPort}
+use Rattle.cal_shared.specs.Channels.{FitsSender, Rings, SendingChannel}
+use Rattle.cal_shared.specs.Port.{IsSoundPort, SendingPort, pair_of_sender}
 use Rattle.cal_shared.specs.Sending.{segments_at}
 
 module _ (settings : ConnectionSettings) (channel : SendingChannel) (fits : FitsSender settings channel) where
@@ -51,6 +51,23 @@ segments_at-there port index channel there =
     (slice_get-map (λ (c : SendingChannel). c.segments) port.channels index
     ∙ ap (option_map (λ (c : SendingChannel). c.segments)) there)
 
+-- and its rings stay
+rings-after_acquire : (channels : List SendingChannel) →
+    map (λ (channel : SendingChannel). channel.rings) (map after_acquire channels)
+    ≡ map (λ (channel : SendingChannel). channel.rings) channels
+rings-after_acquire [] = refl
+rings-after_acquire (channel ∷ rest) = ap (λ (rings : List Rings). channel.rings ∷ rings) (rings-after_acquire rest)
+
+abbrev pub with_channels : SendingPort → List SendingChannel → SendingPort
+with_channels port channels = record port { channels = channels }
+
+pub pair_of-acquired : (port : SendingPort) (channels : List SendingChannel) → channels ≡ map after_acquire port.channels
+    → pair_of_sender (with_channels port channels) ≡ pair_of_sender port
+pair_of-acquired port channels is =
+    ap (λ (cs : List SendingChannel). pair_of_sender (with_channels port cs)) is
+    ∙ ap (λ (rings : List Rings). record { settings = port.settings; words = port.words; rings = rings })
+    (rings-after_acquire port.channels)
+
 module _ (port : SendingPort) (sound : IsSoundPort FitsSender port) where
   -- the channel that is found at a number
   pub FitsSender-there : (index : ℕ) (channel : SendingChannel) → slice_get port.channels index ≡ Some channel
@@ -68,6 +85,12 @@ module _ (port : SendingPort) (sound : IsSoundPort FitsSender port) where
     fits = All-map (FitsSender port.settings) after_acquire port.channels
         (λ index d within. FitsSender-after_acquire port.settings _ (sound.fits index d within));
   }
+
+  -- it is sound where its channels are those after all samples were taken out of use
+  pub IsSoundPort-with_acquired : (channels : List SendingChannel) → channels ≡ map after_acquire port.channels
+      → IsSoundPort FitsSender (with_channels port channels)
+  IsSoundPort-with_acquired channels is =
+      subst (λ (cs : List SendingChannel). IsSoundPort FitsSender (with_channels port cs)) (sym is) IsSoundPort-acquired
 
   -- what can be acquired of a port can be acquired of each of its channels
   pub FitsChannels-acquirable : port.settings.number_of_segments ≤ 256 → IsAcquirable port

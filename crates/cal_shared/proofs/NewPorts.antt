@@ -1,16 +1,23 @@
 -- New ports are sound.
-use Rattle.std.specs.Prelude.{◌≡◌, ℕ, ◌+◌, ◌-◌, ◌^◌, ◌<◌, ◌≤◌, false, List, [], length, map, replicate, All}
+use Rattle.std.specs.Prelude.{◌≡◌, ℕ, ◌+◌, ◌-◌, ◌^◌, ◌<◌, ◌≤◌, false, List, [], ◌∷◌, ◌++◌, length, map, replicate, All}
 use Rattle.std.proofs.Common.{refl, sym, ap, ◌∙◌, subst, arith}
 use Rattle.std.proofs.Math.ListN.{get_or-map}
-use Rattle.std.proofs.lemmas.List.{get_or-replicate, get_or_default, length-map, length-replicate, same_lists}
+use Rattle.std.proofs.lemmas.List.{get_or-replicate, get_or_default, length-map, length-replicate, length_push, map-append, same_lists}
+use Rattle.std.proofs.lemmas.List.Elements.{All-nil, All-push}
+use Rattle.atomic_table.specs.Seated.{TableId}
 use Rattle.cal_queue.specs.declared.completion_ring.pass.GetPass.{GetPass}
 use Rattle.cal_queue.specs.declared.completion_ring.pass.PutPass.{PutPass}
+use Rattle.cal_queue.specs.declared.state_table.pass.OpeningWords.{OpeningWords}
+use Rattle.cal_queue.specs.declared.state_table.pass.StatePass.{StatePass}
+use Rattle.cal_queue.specs.StateTable.{new_pass_of}
 use Rattle.cal_queue.specs.declared.submission_ring.pass.SendPass.{SendPass}
 use Rattle.cal_queue.specs.declared.submission_ring.pass.TakePass.{TakePass}
 use Rattle.cal_connection.specs.Channel.{new_segment, samples_of}
+use Rattle.cal_connection.specs.Settings.{IsClamped, completion_size}
 use Rattle.cal_connection.specs.declared.settings.ConnectionSettings.{ConnectionSettings}
-use Rattle.cal_shared.specs.Channels.{FitsReceiver, FitsSender, ReceivingChannel, SendingChannel}
-use Rattle.cal_shared.specs.New.{IsNewReceivingChannel, IsNewSendingChannel}
+use Rattle.cal_shared.specs.Channels.{FitsReceiver, FitsSender, ReceivingChannel, Rings, SendingChannel}
+use Rattle.cal_shared.specs.New.{AreNewChannels, IsNewReceivingChannel, IsNewSendingChannel, both_ports}
+use Rattle.cal_shared.specs.Port.{IsOnePair, IsSoundPort, Pair, Port, ReceivingPort, SendingPort}
 
 map-replicate : {X Y : Type 0} (f : X → Y) (n : ℕ) (x : X) → map f (replicate n x) ≡ replicate n (f x)
 map-replicate f n x =
@@ -44,3 +51,61 @@ FitsReceiver-new settings channel new =
       received_first = omega arith;
       within = omega arith;
     }
+
+-- ---- the channels of a new pair
+
+pub AreNewChannels-none : (settings : ConnectionSettings) → AreNewChannels settings 0 [] []
+AreNewChannels-none settings = record {
+  senders = All-nil (IsNewSendingChannel settings);
+  receivers = All-nil (IsNewReceivingChannel settings);
+  rings = refl;
+  sender_count = refl;
+  receiver_count = refl;
+}
+
+-- one more
+pub AreNewChannels-more : (settings : ConnectionSettings) (count : ℕ) (sending : List SendingChannel)
+    (receiving : List ReceivingChannel) (sender : SendingChannel) (receiver : ReceivingChannel)
+    → IsNewSendingChannel settings sender → IsNewReceivingChannel settings receiver
+    → sender.rings ≡ receiver.rings → AreNewChannels settings count sending receiving
+    → AreNewChannels settings (count + 1) (sending ++ sender ∷ []) (receiving ++ receiver ∷ [])
+AreNewChannels-more settings count sending receiving sender receiver new_sender new_receiver same so_far = record {
+  senders = All-push (IsNewSendingChannel settings) sending sender so_far.senders new_sender;
+  receivers = All-push (IsNewReceivingChannel settings) receiving receiver so_far.receivers new_receiver;
+  rings =
+      map-append (λ (c : SendingChannel). c.rings) sending (sender ∷ [])
+      ∙ ap (λ (rings : List Rings). rings ++ sender.rings ∷ []) so_far.rings
+      ∙ ap (λ (r : Rings). map (λ (c : ReceivingChannel). c.rings) receiving ++ r ∷ []) same
+      ∙ sym (map-append (λ (c : ReceivingChannel). c.rings) receiving (receiver ∷ []));
+  sender_count = length_push sending sender ∙ ap (λ n. n + 1) so_far.sender_count;
+  receiver_count = length_push receiving receiver ∙ ap (λ n. n + 1) so_far.receiver_count;
+}
+
+-- ---- new ports
+
+-- a port of new channels is sound
+pub IsSoundPort-new : {E : Type 0} (Fits IsNew : ConnectionSettings → E → Type 0) (settings : ConnectionSettings)
+    (initial : ℕ) (words : TableId) (states : StatePass) (channels : List E)
+    → ((channel : E) → IsNew settings channel → Fits settings channel) → IsClamped settings
+    → completion_size settings < 2 ^ 32 → states ≡ new_pass_of both_ports settings.number_of_channels initial
+    → length channels ≡ settings.number_of_channels → All (IsNew settings) channels
+    → IsSoundPort Fits (record { settings = settings; words = words; states = states; channels = channels })
+IsSoundPort-new Fits IsNew settings initial words states channels fitting clamped few new count all = record {
+  clamped = clamped;
+  few = few;
+  words = ap (λ (p : StatePass). p.opening.channels) new;
+  count = count;
+  fits = λ index d within. fitting _ (all index d within);
+}
+
+abbrev made : ConnectionSettings → TableId → List Rings → Pair
+made settings words rings = record { settings = settings; words = words; rings = rings }
+
+pub IsOnePair-made : (sender : SendingPort) (receiver : ReceivingPort) → sender.settings ≡ receiver.settings
+    → sender.words ≡ receiver.words
+    → map (λ (c : SendingChannel). c.rings) sender.channels ≡ map (λ (c : ReceivingChannel). c.rings) receiver.channels
+    → IsOnePair sender receiver
+IsOnePair-made sender receiver settings words rings =
+    ap (λ (s : ConnectionSettings). made s sender.words (map (λ (c : SendingChannel). c.rings) sender.channels)) settings
+    ∙ ap (λ (w : TableId). made receiver.settings w (map (λ (c : SendingChannel). c.rings) sender.channels)) words
+    ∙ ap (made receiver.settings receiver.words) rings

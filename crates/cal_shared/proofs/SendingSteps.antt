@@ -1,6 +1,7 @@
 -- The calls of a sender's end of a channel, from what its rings and its list of samples did.
 use Rattle.std.specs.Prelude.{◌≡◌, ◌≢◌, ℕ, ◌+◌, ◌-◌, ◌^◌, ◌↔◌, Bool, true, false, IsFalse, List, length, map, MatchBool, Option, Result, Ok, Err}
 use Rattle.std.proofs.Common.{refl, sym, ap, ◌∙◌}
+use Rattle.std.proofs.lemmas.Bool.{false≢true}
 use Rattle.cal_queue.specs.SubmissionCalls.{IsPush, LoadsOnce}
 use Rattle.cal_queue.specs.SubmissionPass.{after_read_load}
 use Rattle.cal_queue.specs.CompletionCalls as completion
@@ -28,6 +29,13 @@ FitsSender-kept settings before after keeps fits = record {
   samples = keeps.samples ∙ fits.samples;
 }
 
+-- what the submission ring answered
+abbrev pub taken : Option ℕ → Result (Option ℕ) PushRefusal
+taken back = Ok back
+
+abbrev pub refusing : PushRefusal → Result (Option ℕ) PushRefusal
+refusing refused = Err refused
+
 module _ (before after : SendingChannel) (rings : after.rings ≡ before.rings) where
   -- ---- send
 
@@ -37,7 +45,7 @@ module _ (before after : SendingChannel) (rings : after.rings ≡ before.rings) 
     pub TriesToSend-sent : (answer : Result (Option ℕ) ZeroCopySendError) (back : Option ℕ)
         (entered : List SegmentDetails)
         → IsPush overflow pointer (Ok back) before.submission after.submission
-        → ((Ok {E = PushRefusal} back ≡ Err refusal.PositionsUsedUp) ↔ (length before.submission.sent ≡ 2 ^ 64 - 1))
+        → ((taken back ≡ Err refusal.PositionsUsedUp) ↔ (length before.submission.sent ≡ 2 ^ 64 - 1))
         → entered ≡ with_entry before.segments pointer sample_size
         → answer ≡ return_answer ConnectionCorrupted entered back → after.segments ≡ after_return entered back
         → TriesToSend overflow pointer sample_size answer before after
@@ -64,7 +72,7 @@ module _ (before after : SendingChannel) (rings : after.rings ≡ before.rings) 
     -- nothing was sent
     pub TriesToSend-refused : (answer : Result (Option ℕ) ZeroCopySendError) (refused : PushRefusal)
         → IsPush overflow pointer (Err refused) before.submission after.submission
-        → ((Err {A = Option ℕ} refused ≡ Err refusal.PositionsUsedUp) ↔ (length before.submission.sent ≡ 2 ^ 64 - 1))
+        → ((refusing refused ≡ Err refusal.PositionsUsedUp) ↔ (length before.submission.sent ≡ 2 ^ 64 - 1))
         → answer ≡ Err (send_error refused) → after.segments ≡ before.segments
         → TriesToSend overflow pointer sample_size answer before after
     TriesToSend-refused answer refused push used_up answered segments = record {
@@ -141,11 +149,11 @@ SeesRoom-or_full before after answer loads full rings buffer completion segments
         → MatchBool b (SeesRoom before after) (SeesFull before after)
     by_answer true either = record {
       position = after.submission.seen_read;
-      room = λ is. either.1 (is ∙ sym same);
+      room = λ is. false≢true (sym (either.1 (is ∙ sym same)));
       step = step;
     }
     by_answer false either = record {
       position = after.submission.seen_read;
-      full = either.0 tt ∙ same;
+      full = either.0 refl ∙ same;
       step = step;
     }

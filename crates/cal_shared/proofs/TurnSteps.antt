@@ -1,6 +1,7 @@
 -- The turns of a blocking send, from what each look and each answer did.
 use Rattle.std.specs.Prelude.{◌≡◌, ℕ, ◌/◌, Bool, true, false, ◌⊎◌, List, [], ◌∷◌, map, slice_get, unwrap_or, Option, Some, None, Result}
-use Rattle.std.proofs.Common.{refl, sym, ap, ◌∙◌, subst, inl, inr}
+use Rattle.std.proofs.Common.{refl, sym, ap, ◌∙◌, subst, inl, inr, not}
+use Rattle.std.proofs.lemmas.Bool.{false≢true}
 use Rattle.cal_alloc.specs.PointerOffset.{offset_of, segment_of}
 use Rattle.cal_queue.specs.StateTable.{after_step, channel_index, load_step, port_index}
 use Rattle.cal_connection.specs.Backpressure.{asks_again, ends_turns, next_retry}
@@ -18,6 +19,20 @@ use Rattle.cal_shared.specs.PortLemmas.{map-OnChannel}
 use Rattle.cal_shared.specs.Sending.{IsSendable, IsWithin, SeesFull, SeesRoom, used_samples}
 use Rattle.cal_shared.specs.Turns.{EndsByAnswer, EndsByLook, LooksAtQueue, SeesObstacle, ShowsObstacle, SomeTurns, TakesTurns, after_looks}
 use Rattle.cal_shared.specs.Words.{LoadsWord}
+
+-- ---- tests
+
+pub is_false : (b : Bool) → not b ≡ true → b ≡ false
+is_false true is = absurd (false≢true is)
+is_false false is = refl
+
+pub is_true : (b : Bool) → not b ≡ false → b ≡ true
+is_true true is = refl
+is_true false is = absurd (false≢true (sym is))
+
+not_not : (b : Bool) → b ≡ not (not b)
+not_not true = refl
+not_not false = refl
 
 -- ---- one look
 
@@ -129,3 +144,31 @@ module _ (Allows : ℕ → BackpressureToReceiverAction → Type 0) (strategy : 
       → EndsByAnswer Allows strategy channel retry outcome now after
       → Continues first retry true now → SomeTurns Allows strategy channel outcome first after
   SomeTurns-by_answer first now after retry outcome ends so_far = so_far [] outcome after (inr ends)
+
+  -- ---- the same, by whether the handler is asked no more
+
+  pub Continues-while_waiting : (first now next : SendingPort) (retry : ℕ) (waits : Bool) → waits ≡ true
+      → SeesObstacle channel FullQueue now next → Continues first retry (not waits) now
+      → Continues first retry (not waits) next
+  Continues-while_waiting first now next retry waits is full so_far =
+      subst (λ (b : Bool). Continues first retry (not b) next) (sym is)
+      (Continues-waited first now next retry full
+      (subst (λ (b : Bool). Continues first retry (not b) now) is so_far))
+
+  pub Continues-after_asking : (first now next : SendingPort) (retry following : ℕ)
+      (answer : BackpressureToReceiverAction) (waits again : Bool) → waits ≡ false
+      → SeesObstacle channel FullQueue now next → Allows retry answer → ends_turns strategy answer ≡ false
+      → following ≡ next_retry retry → again ≡ asks_again answer → Continues first retry (not waits) now
+      → Continues first following (not (not again)) next
+  Continues-after_asking first now next retry following answer waits again is full allowed goes_on counted asks so_far =
+      subst (λ (b : Bool). Continues first following b next) (not_not again)
+      (Continues-asked first now next retry following answer again full allowed goes_on counted asks
+      (subst (λ (b : Bool). Continues first retry (not b) now) is so_far))
+
+  pub SomeTurns-answered : (first now after : SendingPort) (retry : ℕ) (waits : Bool)
+      (outcome : Result (Unit {0}) ZeroCopySendError) → waits ≡ false
+      → EndsByAnswer Allows strategy channel retry outcome now after
+      → Continues first retry (not waits) now → SomeTurns Allows strategy channel outcome first after
+  SomeTurns-answered first now after retry waits outcome is ends so_far =
+      SomeTurns-by_answer first now after retry outcome ends
+      (subst (λ (b : Bool). Continues first retry (not b) now) is so_far)

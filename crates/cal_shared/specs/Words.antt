@@ -12,7 +12,13 @@ pub record LoadsWord {A : Type 0} (index : ℕ) (answer_of : ℕ → A) (answer 
   pub step : after ≡ after_step before (load_step index seen)
   pub answers : answer ≡ answer_of seen
 
--- one exchange of a word for another, where it is the one expected
+-- one exchange of a word for another, where it is the one expected, and whether it was
+pub record Exchanged (index expected word : ℕ) (won : Bool) (before after : StatePass) : Type 0 where
+  pub seen : ℕ
+  pub step : after ≡ after_step before (exchange_step index expected word seen)
+  pub won_where_expected : won ≡ (seen == expected)
+
+-- the same, where that isn't answered
 pub record ExchangesWord (index expected word : ℕ) (before after : StatePass) : Type 0 where
   pub seen : ℕ
   pub step : after ≡ after_step before (exchange_step index expected word seen)

@@ -23,14 +23,15 @@ impl SharedPort<SendingEnd> {
         let is_connected = self.is_connected();
         let is_closed = self.is_channel_closed(channel_id);
         if !is_connected {
-            Obstacle::NoReceiver
-        } else if is_closed {
-            Obstacle::ClosedChannel
-        } else if self.has_room(channel_id) {
-            Obstacle::Nothing
-        } else {
-            Obstacle::FullQueue
+            return Obstacle::NoReceiver;
         }
+        if is_closed {
+            return Obstacle::ClosedChannel;
+        }
+        if self.has_room(channel_id) {
+            return Obstacle::Nothing;
+        }
+        Obstacle::FullQueue
     }
 
     // Looks turn by turn, and asks the handler in each turn that finds the queue full, until a look or an answer ends

@@ -1,15 +1,44 @@
 //! The words that both ports share: which ports are there, and the states of the channels. Each call is one step at a
 //! word or two, takes no memory, and waits for nobody, but for the end of a port.
 ghost use Rattle.std.specs.Prelude.{◌≡◌, ◌<◌};
+ghost use Rattle.cal_queue.specs.StateSeats.{ShareTable, pass};
 ghost use Rattle.cal_queue.specs.StateTable.{IsPortWord, IsWitnessed, channel_index, port_index};
 ghost use Rattle.cal_connection.specs.Words.{has_hint, has_state, is_closed, is_connected};
 ghost use Rattle.cal_shared.specs.Port.{AtWords, pair_of};
-ghost use Rattle.cal_shared.specs.Words.{ClosesChannel, Leaves, LoadsWord, SetsHint, SetsState};
+ghost use Rattle.cal_shared.specs.Words.{ClosesChannel, Exchanged, Leaves, LoadsWord, SetsHint, SetsState};
 
 use crate::shared_port::{PortEnd, SharedPort};
 use crate::words;
 use cal_connection::{ChannelId, ChannelState};
+use cal_queue::state_table::StateSeat;
 use std::sync::Wait;
+
+// Puts another word in the place of a channel's, where that is the word expected, and answers whether it was.
+fn exchange(states: &mut StateSeat, channel: usize, expected: u64, word: u64) -> bool
+    requires channel { channel < (pass states.old).opening.channels }
+    ensures same_table { ShareTable states.new states.old }
+    ensures opening { (pass states.new).opening ≡ (pass states.old).opening }
+    ensures exchanged { Exchanged (channel_index channel) expected word result (pass states.old) (pass states.new) }
+    ensures witnessed { IsWitnessed (pass states.new) }
+{
+    states.exchange_channel(channel, expected, word).is_ok()
+}
+
+// Closes a channel, where it is in this state, whether or not the other side is asked to disconnect.
+fn close(states: &mut StateSeat, channel: usize, state: u64)
+    requires channel { channel < (pass states.old).opening.channels }
+    ensures same_table { ShareTable states.new states.old }
+    ensures opening { (pass states.new).opening ≡ (pass states.old).opening }
+    ensures closed { ClosesChannel channel state (pass states.old) (pass states.new) }
+    ensures witnessed { IsWitnessed (pass states.new) }
+{
+    let closed = exchange(states, channel, state, words::CLOSED);
+    if closed {
+        return;
+    }
+    let hinted = words::with_hint(state);
+    let _closed_then = exchange(states, channel, hinted, words::CLOSED);
+}
 
 impl<E: PortEnd> SharedPort<E> {
     /// Whether both ports are there, by one load.
@@ -71,9 +100,9 @@ impl<E: PortEnd> SharedPort<E> {
         ensures pair { pair_of E.rings self.new ≡ pair_of E.rings self.old }
         ensures witnessed { IsWitnessed self.new.states }
     {
-        self.states
-            .exchange_channel(channel_id.value(), words::CLOSED, state.value())
-            .is_ok()
+        let channel = channel_id.value();
+        let state = state.value();
+        exchange(&mut self.states, channel, words::CLOSED, state)
     }
 
     /// Asks the other side to disconnect by one exchange, where the channel is in this state and it isn't asked yet.
@@ -83,10 +112,10 @@ impl<E: PortEnd> SharedPort<E> {
         ensures pair { pair_of E.rings self.new ≡ pair_of E.rings self.old }
         ensures witnessed { IsWitnessed self.new.states }
     {
+        let channel = channel_id.value();
         let state = state.value();
-        let _ = self
-            .states
-            .exchange_channel(channel_id.value(), state, words::with_hint(state));
+        let hinted = words::with_hint(state);
+        let _asked = exchange(&mut self.states, channel, state, hinted);
     }
 
     /// Closes a channel, where it is in this state, whether or not the other side is asked to disconnect. It tries the
@@ -99,13 +128,7 @@ impl<E: PortEnd> SharedPort<E> {
     {
         let channel = channel_id.value();
         let state = state.value();
-        let states = &mut self.states;
-        if states
-            .exchange_channel(channel, state, words::CLOSED)
-            .is_err()
-        {
-            let _ = states.exchange_channel(channel, words::with_hint(state), words::CLOSED);
-        }
+        close(&mut self.states, channel, state);
     }
 
     /// Ends the port: its bit goes, or the connection is marked where it is the last one there, and the answer is

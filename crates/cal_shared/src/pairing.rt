@@ -2,7 +2,7 @@
 ghost use Rattle.std.specs.Prelude.{◌≡◌, ◌<◌, ◌≤◌, ◌^◌, ◌⊎◌, ◌↔◌, IsTrue, IfErr, IfOk, Err};
 ghost use Rattle.cal_connection.specs.Settings.{IsClamped, completion_size};
 ghost use Rattle.cal_connection.specs.declared.errors.ZeroCopyCreationError.TheVariants.{NoMemory, SizeOutOfRange};
-ghost use Rattle.cal_shared.specs.New.{IsNewPort, IsNewReceivingChannel, IsNewSendingChannel};
+ghost use Rattle.cal_shared.specs.New.{AreNewChannels, IsNewPort, IsNewReceivingChannel, IsNewSendingChannel};
 ghost use Rattle.cal_shared.specs.Port.{IsOnePair};
 ghost use Rattle.cal_shared.specs.Settings.{connection_settings, is_pair_too_large};
 
@@ -47,6 +47,27 @@ fn new_channel(
     Ok((sending, receiving))
 }
 
+/// Both ends of each channel of a new connection. The error says that memory ran out.
+fn new_channels(
+    alloc: Global,
+    settings: &ConnectionSettings,
+) -> Result<(Vec<SendingEnd>, Vec<ReceivingEnd>), AllocError>
+    requires clamped { IsClamped settings.now }
+    requires few { completion_size settings.now < 2 ^ 32 }
+    ensures made { IfOk result (λ ends.
+        AreNewChannels settings.now settings.now.number_of_channels ends.0.items ends.1.items) }
+{
+    let channels = settings.number_of_channels;
+    let mut sending = Vec::with_capacity(alloc, channels)?;
+    let mut receiving = Vec::with_capacity(alloc, channels)?;
+    for _ in 0..channels {
+        let (sender, receiver) = new_channel(alloc, settings)?;
+        sending.push(sender)?;
+        receiving.push(receiver)?;
+    }
+    Ok((sending, receiving))
+}
+
 /// A pair with these settings, whose channels begin with this word. The error says that memory ran out.
 fn new_pair(
     alloc: Global,
@@ -59,15 +80,9 @@ fn new_pair(
     ensures sender { IfOk result (λ ports. IsNewPort IsNewSendingChannel settings.now initial ports.0) }
     ensures receiver { IfOk result (λ ports. IsNewPort IsNewReceivingChannel settings.now initial ports.1) }
 {
-    let channels = settings.number_of_channels;
-    let (first, second) = StateTable::new(alloc, channels, BOTH_PORTS, initial)?;
-    let mut sending = Vec::with_capacity(alloc, channels)?;
-    let mut receiving = Vec::with_capacity(alloc, channels)?;
-    for _ in 0..channels {
-        let (sender, receiver) = new_channel(alloc, settings)?;
-        sending.push(sender)?;
-        receiving.push(receiver)?;
-    }
+    let (first, second) =
+        StateTable::new(alloc, settings.number_of_channels, BOTH_PORTS, initial)?;
+    let (sending, receiving) = new_channels(alloc, settings)?;
     let sender = SharedPort {
         settings: *settings,
         states: first,

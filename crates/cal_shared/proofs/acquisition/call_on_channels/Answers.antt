@@ -9,13 +9,13 @@ use Rattle.cal_shared.proofs.acquisition.call_on_channels.Goals as goal
 
 pub call_on_used-callback-requires-clause-numbered : goal.call_on_used-callback-requires-clause-numbered
 call_on_used-callback-requires-clause-numbered g c =
-    c.requires.numbered c.loop-channel.channel c.index-channels-channel.result
+    c.requires.fits.numbered c.loop-channel.channel c.index-channels-channel.result
     (slice_get_read c.args.channels.now (length c.args.channels.now) c.loop-channel.channel
     c.index-channels-channel.result refl (omega arith) c.index-channels-channel.is)
 
 pub call_on_used-callback-requires-clause-fits : goal.call_on_used-callback-requires-clause-fits
 call_on_used-callback-requires-clause-fits g c =
-    c.requires.fits c.loop-channel.channel c.index-channels-channel.result
+    c.requires.fits.fits c.loop-channel.channel c.index-channels-channel.result
     (slice_get_read c.args.channels.now (length c.args.channels.now) c.loop-channel.channel
     c.index-channels-channel.result refl (omega arith) c.index-channels-channel.is)
 

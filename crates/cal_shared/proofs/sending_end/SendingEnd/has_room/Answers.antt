@@ -6,7 +6,7 @@ use Rattle.cal_shared.proofs.sending_end.SendingEnd.has_room.Goals as goal
 
 pub returns : goal.returns
 returns c = record {
-  looked = rw ← c.self.view_is (SeesRoom-or_full _ _ c.has_room.result c.has_room.ensures.one_look
+  looked = rw (← c.self.view_is) (SeesRoom-or_full _ _ c.has_room.result c.has_room.ensures.one_look
       c.has_room.ensures.full (same_rings _ _ _ _ c.has_room.ensures.same_end.0 refl) c.has_room.ensures.same_end.1 refl
       refl);
 }

@@ -15,4 +15,6 @@ returns-clause-loaded g c =
     (record { seen = c.load_channel.result; step = rw c.value.ensures.value at c.load_channel.ensures.step; answers = refl })
 
 pub returns-clause-pair : goal.returns-clause-pair
-returns-clause-pair g c = pair_of-stepped _ _ c.self.view_is _ _ c.load_channel.ensures.same_table g.E.PortEnd.rings
+returns-clause-pair g c =
+    pair_of-stepped _ _ c.self.view_is _ (pass c.load_channel.new.self) c.load_channel.ensures.same_table
+    g.E.PortEnd.rings

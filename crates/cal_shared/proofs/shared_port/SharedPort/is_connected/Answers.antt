@@ -15,4 +15,5 @@ returns-clause-loaded g c =
     (record { seen = c.load_port.result; step = c.load_port.ensures.step; answers = c.is_connected.ensures.value })
 
 pub returns-clause-pair : goal.returns-clause-pair
-returns-clause-pair g c = pair_of-stepped _ _ c.self.view_is _ _ c.load_port.ensures.same_table g.E.PortEnd.rings
+returns-clause-pair g c =
+    pair_of-stepped _ _ c.self.view_is _ (pass c.load_port.new.self) c.load_port.ensures.same_table g.E.PortEnd.rings

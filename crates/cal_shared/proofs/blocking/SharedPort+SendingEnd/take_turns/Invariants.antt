@@ -3,7 +3,7 @@ use Rattle.cal_connection.specs.declared.backpressure.BackpressureToReceiverActi
 use Rattle.cal_shared.specs.Port.{pair_of_sender}
 use Rattle.cal_shared.specs.Sending.{used_samples}
 use Rattle.cal_shared.proofs.TurnSteps.{Continues}
-use Rattle.cal_shared.proofs.shared_port.SharedPort.take_turns.Given as goal
+use Rattle.cal_shared.proofs.blocking.SharedPort+SendingEnd.take_turns.Given as goal
 
 -- the turns so far found the queue full, and left what a send needs
 abbrev pub invariant-loop : goal.invariant-loop
