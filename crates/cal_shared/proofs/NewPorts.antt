@@ -7,7 +7,6 @@ use Rattle.std.proofs.lemmas.List.Elements.{All-nil, All-push}
 use Rattle.atomic_table.specs.Seated.{TableId}
 use Rattle.cal_queue.specs.declared.completion_ring.pass.GetPass.{GetPass}
 use Rattle.cal_queue.specs.declared.completion_ring.pass.PutPass.{PutPass}
-use Rattle.cal_queue.specs.declared.state_table.pass.OpeningWords.{OpeningWords}
 use Rattle.cal_queue.specs.declared.state_table.pass.StatePass.{StatePass}
 use Rattle.cal_queue.specs.StateTable.{new_pass_of}
 use Rattle.cal_queue.specs.declared.submission_ring.pass.SendPass.{SendPass}

@@ -4,16 +4,20 @@ use Rattle.cal_shared.specs.Channels.{ReceivingChannel, Rings, SendingChannel}
 use Rattle.cal_shared.proofs.resting.rest_of_channel.Goals as goal
 
 pub rest-submitted-requires : goal.rest-submitted-requires
-rest-submitted-requires c =
-    ap (λ (s : SendingChannel). s.rings.submission) c.sending.view_is
-    ∙ ap (λ (r : Rings). r.submission) c.requires.rings
-    ∙ sym (ap (λ (r : ReceivingChannel). r.rings.submission) c.receiving.view_is)
+rest-submitted-requires c = record {
+  one_ring =
+      ap (λ (s : SendingChannel). s.rings.submission) c.sending.view_is
+      ∙ ap (λ (r : Rings). r.submission) c.requires.rings
+      ∙ sym (ap (λ (r : ReceivingChannel). r.rings.submission) c.receiving.view_is);
+}
 
 pub rest_completion-completed-requires : goal.rest_completion-completed-requires
-rest_completion-completed-requires c =
-    ap (λ (r : ReceivingChannel). r.rings.completion) c.receiving.view_is
-    ∙ sym (ap (λ (r : Rings). r.completion) c.requires.rings)
-    ∙ sym (ap (λ (s : SendingChannel). s.rings.completion) c.sending.view_is)
+rest_completion-completed-requires c = record {
+  one_ring =
+      ap (λ (r : ReceivingChannel). r.rings.completion) c.receiving.view_is
+      ∙ sym (ap (λ (r : Rings). r.completion) c.requires.rings)
+      ∙ sym (ap (λ (s : SendingChannel). s.rings.completion) c.sending.view_is);
+}
 
 pub returns : goal.returns
 returns c =

@@ -1,4 +1,4 @@
-use Rattle.std.proofs.Common.{◌≡◌, sym, ap, ◌∙◌, subst, arith}
+use Rattle.std.proofs.Common.{◌≡◌, ◌≤◌, sym, ap, ◌∙◌, subst, arith}
 use Rattle.cal_queue.specs.StateSeats.{pass}
 use Rattle.cal_shared.specs.Acquiring.{IsAcquirable}
 use Rattle.cal_shared.specs.Port.{SendingPort, pair_of_sender}
@@ -13,11 +13,20 @@ call_on_channels-requires-clause-fits g c =
       states = pass c.self.inside.states;
       channels = c.self.inside.channels.items;
     } in
-    FitsChannels-acquirable port c.self.invariant (omega arith)
+    let few : c.self.inside.settings.number_of_segments ≤ 256 = omega arith in
+    FitsChannels-acquirable port c.self.invariant few
     (subst IsAcquirable (sym c.self.view_is) c.requires.acquirable)
 
 pub invariant_of-self : goal.invariant_of-self
-invariant_of-self g c = IsSoundPort-with_acquired _ c.self.invariant _ c.empty_channels.ensures.emptied
+invariant_of-self g c =
+    let port : SendingPort = record {
+      settings = c.self.inside.settings;
+      words = c.self.inside.states.seat.table_id;
+      states = pass c.self.inside.states;
+      channels = c.self.inside.channels.items;
+    } in
+    IsSoundPort-with_acquired port c.self.invariant c.empty_channels.new.channels.items
+    c.empty_channels.ensures.emptied
 
 pub returns-clause-pair : goal.returns-clause-pair
 returns-clause-pair g c =
