@@ -47,11 +47,19 @@ fn may_name(sender: &SharedSender, ptr: PointerOffset, sample_size: usize, chann
     ensures within { result ≡ true → IsWithin sender.now.settings channel ptr sample_size }
 {
     let settings = sender.settings();
-    channel < settings.number_of_channels
-        && sample_size > 0
-        && ptr.offset() % sample_size == 0
-        && ptr.segment_id().value() < settings.number_of_segments
-        && ptr.offset() / sample_size < settings.number_of_samples
+    if channel >= settings.number_of_channels {
+        return false;
+    }
+    if sample_size == 0 || ptr.offset() % sample_size != 0 {
+        return false;
+    }
+    if ptr.segment_id().value() >= settings.number_of_segments {
+        return false;
+    }
+    if ptr.offset() / sample_size >= settings.number_of_samples {
+        return false;
+    }
+    true
 }
 
 /// Whether an offset may be sent on a channel.
