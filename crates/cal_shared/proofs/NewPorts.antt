@@ -16,7 +16,7 @@ use Rattle.cal_connection.specs.Settings.{IsClamped, completion_size}
 use Rattle.cal_connection.specs.declared.settings.ConnectionSettings.{ConnectionSettings}
 use Rattle.cal_shared.specs.Channels.{FitsReceiver, FitsSender, ReceivingChannel, Rings, SendingChannel}
 use Rattle.cal_shared.specs.New.{AreNewChannels, IsNewReceivingChannel, IsNewSendingChannel, both_ports}
-use Rattle.cal_shared.specs.Port.{IsOnePair, IsSoundPort, Pair, Port, ReceivingPort, SendingPort}
+use Rattle.cal_shared.specs.Port.{IsSoundPort, Pair, Port}
 
 map-replicate : {X Y : Type 0} (f : X → Y) (n : ℕ) (x : X) → map f (replicate n x) ≡ replicate n (f x)
 map-replicate f n x =
@@ -97,14 +97,15 @@ IsSoundPort-new Fits IsNew settings initial words states channels fitting clampe
   fits = λ index d within. fitting _ (all index d within);
 }
 
-abbrev made : ConnectionSettings → TableId → List Rings → Pair
+abbrev pub made : ConnectionSettings → TableId → List Rings → Pair
 made settings words rings = record { settings = settings; words = words; rings = rings }
 
-pub IsOnePair-made : (sender : SendingPort) (receiver : ReceivingPort) → sender.settings ≡ receiver.settings
-    → sender.words ≡ receiver.words
-    → map (λ (c : SendingChannel). c.rings) sender.channels ≡ map (λ (c : ReceivingChannel). c.rings) receiver.channels
-    → IsOnePair sender receiver
-IsOnePair-made sender receiver settings words rings =
-    ap (λ (s : ConnectionSettings). made s sender.words (map (λ (c : SendingChannel). c.rings) sender.channels)) settings
-    ∙ ap (λ (w : TableId). made receiver.settings w (map (λ (c : SendingChannel). c.rings) sender.channels)) words
-    ∙ ap (made receiver.settings receiver.words) rings
+-- both ports have the same in common
+pub same_pair : (settings : ConnectionSettings) (words words' : TableId) (sending : List SendingChannel)
+    (receiving : List ReceivingChannel) → words ≡ words'
+    → map (λ (c : SendingChannel). c.rings) sending ≡ map (λ (c : ReceivingChannel). c.rings) receiving
+    → made settings words (map (λ (c : SendingChannel). c.rings) sending)
+    ≡ made settings words' (map (λ (c : ReceivingChannel). c.rings) receiving)
+same_pair settings words words' sending receiving same rings =
+    ap (λ (w : TableId). made settings w (map (λ (c : SendingChannel). c.rings) sending)) same
+    ∙ ap (made settings words') rings

@@ -16,19 +16,11 @@ use Rattle.cal_connection.specs.declared.settings.ConnectionSettings.{Connection
 use Rattle.cal_shared.specs.Channels.{SendingChannel}
 use Rattle.cal_shared.specs.Port.{AtWords, OnChannel, Pair, SendingPort, pair_of_sender, with_states}
 use Rattle.cal_shared.specs.PortLemmas.{map-OnChannel}
-use Rattle.cal_shared.specs.Sending.{IsSendable, IsWithin, SeesFull, SeesRoom, used_samples}
-use Rattle.cal_shared.specs.Turns.{EndsByAnswer, EndsByLook, LooksAtQueue, SeesObstacle, ShowsObstacle, SomeTurns, TakesTurns, after_looks}
+use Rattle.cal_shared.specs.Sending.{IsSendable, IsWithin, SeesFull, SeesRoom, TriesToSend, used_samples}
+use Rattle.cal_shared.specs.Turns.{EndsByAnswer, EndsByLook, LooksAtQueue, SeesObstacle, SendsAfterAwaiting, SendsBlocking, ShowsObstacle, SomeTurns, TakesTurns, after_looks}
 use Rattle.cal_shared.specs.Words.{LoadsWord}
 
 -- ---- tests
-
-pub is_false : (b : Bool) → not b ≡ true → b ≡ false
-is_false true is = absurd (false≢true is)
-is_false false is = refl
-
-pub is_true : (b : Bool) → not b ≡ false → b ≡ true
-is_true true is = refl
-is_true false is = absurd (false≢true (sym is))
 
 not_not : (b : Bool) → b ≡ not (not b)
 not_not true = refl
@@ -172,3 +164,19 @@ module _ (Allows : ℕ → BackpressureToReceiverAction → Type 0) (strategy : 
   SomeTurns-answered first now after retry waits outcome is ends so_far =
       SomeTurns-by_answer first now after retry outcome ends
       (subst (λ (b : Bool). Continues first retry (not b) now) is so_far)
+
+-- ---- the whole call
+
+module _ (Allows : ℕ → BackpressureToReceiverAction → Type 0) (strategy : BackpressureToReceiverAction)
+    (channel pointer sample_size : ℕ) (answer : Result (Option ℕ) ZeroCopySendError) (before after : SendingPort) where
+  pub SendsBlocking-overflowing : (overflow : Bool) → overflow ≡ true
+      → OnChannel channel (TriesToSend overflow pointer sample_size answer) before after
+      → SendsBlocking Allows strategy channel overflow pointer sample_size answer before after
+  SendsBlocking-overflowing true is sends = sends
+  SendsBlocking-overflowing false is sends = absurd (false≢true is)
+
+  pub SendsBlocking-awaited : (overflow : Bool) → overflow ≡ false
+      → SendsAfterAwaiting Allows strategy channel pointer sample_size answer before after
+      → SendsBlocking Allows strategy channel overflow pointer sample_size answer before after
+  SendsBlocking-awaited true is sends = absurd (false≢true (sym is))
+  SendsBlocking-awaited false is sends = sends

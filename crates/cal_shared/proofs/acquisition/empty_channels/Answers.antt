@@ -6,7 +6,7 @@ use Rattle.cal_shared.proofs.acquisition.empty_channels.Goals as goal
 pub loop-index-init : goal.loop-index-init
 loop-index-init c = record {
   so_far = IsChangedBelow-at_start after_acquire c.args.channels.now.items;
-  count = c.len-index-end.ensures;
+  count = omega (arith, c.args.channels.now.ok.0);
   within = omega arith;
 }
 

@@ -6,7 +6,7 @@ use Rattle.cal_shared.proofs.acquisition.empty_segments.Goals as goal
 pub loop-index-init : goal.loop-index-init
 loop-index-init c = record {
   so_far = IsChangedBelow-at_start emptied c.args.segments.now.items;
-  count = c.len-index-end.ensures;
+  count = omega (arith, c.args.segments.now.ok.0);
   within = omega arith;
 }
 

@@ -1,7 +1,7 @@
 use Rattle.std.proofs.Common.{refl}
 use Rattle.cal_shared.specs.Channels.{FitsReceiver, FitsSender}
 use Rattle.cal_shared.specs.New.{IsNewReceivingChannel, IsNewSendingChannel}
-use Rattle.cal_shared.proofs.NewPorts.{FitsReceiver-new, FitsSender-new, IsOnePair-made, IsSoundPort-new}
+use Rattle.cal_shared.proofs.NewPorts.{FitsReceiver-new, FitsSender-new, IsSoundPort-new, same_pair}
 use Rattle.cal_shared.proofs.pairing.new_pair.Goals as goal
 
 pub invariant_of-sender : goal.invariant_of-sender
@@ -18,7 +18,9 @@ invariant_of-receiver c =
 
 pub returns : goal.returns
 returns c = record {
-  pair = IsOnePair-made _ _ refl c.in_ok-first.ensures.shared c.in_ok-sending.ensures.made.rings;
+  pair = same_pair c.args.settings.now c.in_ok-first.first.seat.table_id c.in_ok-first.second.seat.table_id
+      c.in_ok-sending.sending.items c.in_ok-sending.receiving.items c.in_ok-first.ensures.shared
+      c.in_ok-sending.ensures.made.rings;
   sender = record {
     same_settings = refl;
     states = c.in_ok-first.ensures.first;

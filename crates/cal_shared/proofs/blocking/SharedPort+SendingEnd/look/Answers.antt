@@ -1,9 +1,9 @@
-use Rattle.std.proofs.Common.{◌≡◌, refl, sym, ap, ◌∙◌, subst}
-use Rattle.std.specs.Prelude.{Bool, true, false, not, MatchBool}
+use Rattle.std.proofs.Common.{refl, sym, ap, ◌∙◌, subst}
+use Rattle.std.specs.Prelude.{Bool, MatchBool}
 use Rattle.cal_connection.specs.declared.backpressure.Obstacle.TheVariants.{ClosedChannel, FullQueue, NoReceiver, Nothing}
 use Rattle.cal_shared.specs.Port.{OnChannel}
 use Rattle.cal_shared.specs.Sending.{SeesFull, SeesRoom, used_samples}
-use Rattle.cal_shared.proofs.TurnSteps.{SeesObstacle-made, is_false, is_true}
+use Rattle.cal_shared.proofs.TurnSteps.{SeesObstacle-made}
 use Rattle.cal_shared.proofs.blocking.SharedPort+SendingEnd.look.Goals as goal
 
 pub returns-then-not-is_connected : goal.returns-then-not-is_connected
@@ -12,7 +12,7 @@ returns-then-not-is_connected c = record {
       c.is_channel_closed-is_closed.result c.args.self.now c.is_connected-is_connected.new.self
       c.is_channel_closed-is_closed.new.self c.is_channel_closed-is_closed.new.self c.is_connected-is_connected.ensures.loaded
       c.is_channel_closed-is_closed.ensures.loaded
-      (λ port_word word connected closed. sym connected ∙ is_false c.is_connected-is_connected.result c.if-not-is_connected.true)
+      (λ port_word word connected closed. sym connected ∙ c.if-not-is_connected.true)
       refl;
   pair = c.is_channel_closed-is_closed.ensures.pair ∙ c.is_connected-is_connected.ensures.pair;
   samples = ap used_samples c.is_channel_closed-is_closed.ensures.loaded.only
@@ -25,7 +25,7 @@ returns-then-is_closed c = record {
       c.is_channel_closed-is_closed.result c.args.self.now c.is_connected-is_connected.new.self
       c.is_channel_closed-is_closed.new.self c.is_channel_closed-is_closed.new.self c.is_connected-is_connected.ensures.loaded
       c.is_channel_closed-is_closed.ensures.loaded
-      (λ port_word word connected closed. (sym connected ∙ is_true c.is_connected-is_connected.result c.if-not-is_connected.false, sym closed ∙ c.if-is_closed.true))
+      (λ port_word word connected closed. (sym connected ∙ c.if-not-is_connected.false, sym closed ∙ c.if-is_closed.true))
       refl;
   pair = c.is_channel_closed-is_closed.ensures.pair ∙ c.is_connected-is_connected.ensures.pair;
   samples = ap used_samples c.is_channel_closed-is_closed.ensures.loaded.only
@@ -38,7 +38,7 @@ returns-then-has_room c = record {
       c.is_channel_closed-is_closed.result c.args.self.now c.is_connected-is_connected.new.self
       c.is_channel_closed-is_closed.new.self c.has_room.new.self c.is_connected-is_connected.ensures.loaded
       c.is_channel_closed-is_closed.ensures.loaded
-      (λ port_word word connected closed. (sym connected ∙ is_true c.is_connected-is_connected.result c.if-not-is_connected.false, sym closed ∙ c.if-is_closed.false))
+      (λ port_word word connected closed. (sym connected ∙ c.if-not-is_connected.false, sym closed ∙ c.if-is_closed.false))
       (subst
       (λ (b : Bool).
       MatchBool b
@@ -52,13 +52,13 @@ returns-then-has_room c = record {
       ∙ ap used_samples c.is_connected-is_connected.ensures.loaded.only;
 }
 
-pub returns-else-has_room : goal.returns-else-has_room
-returns-else-has_room c = record {
+pub returns : goal.returns
+returns c = record {
   seen = SeesObstacle-made c.args.channel_id FullQueue c.is_connected-is_connected.result
       c.is_channel_closed-is_closed.result c.args.self.now c.is_connected-is_connected.new.self
       c.is_channel_closed-is_closed.new.self c.has_room.new.self c.is_connected-is_connected.ensures.loaded
       c.is_channel_closed-is_closed.ensures.loaded
-      (λ port_word word connected closed. (sym connected ∙ is_true c.is_connected-is_connected.result c.if-not-is_connected.false, sym closed ∙ c.if-is_closed.false))
+      (λ port_word word connected closed. (sym connected ∙ c.if-not-is_connected.false, sym closed ∙ c.if-is_closed.false))
       (subst
       (λ (b : Bool).
       MatchBool b

@@ -1,6 +1,6 @@
 use Rattle.std.proofs.Common.{◌≡◌, ◌≤◌, sym, ap, ◌∙◌, subst, arith}
 use Rattle.cal_queue.specs.StateSeats.{pass}
-use Rattle.cal_shared.specs.Acquiring.{IsAcquirable}
+use Rattle.cal_shared.specs.Acquiring.{FitsChannels, IsAcquirable}
 use Rattle.cal_shared.specs.Port.{SendingPort, pair_of_sender}
 use Rattle.cal_shared.proofs.FittingChannels.{FitsChannels-acquirable, IsSoundPort-with_acquired, pair_of-acquired}
 use Rattle.cal_shared.proofs.shared_sender.SharedPort+SendingEnd.acquire_used_offsets.Goals as goal
@@ -14,8 +14,9 @@ call_on_channels-requires-clause-fits g c =
       channels = c.self.inside.channels.items;
     } in
     let few : c.self.inside.settings.number_of_segments ≤ 256 = omega arith in
-    FitsChannels-acquirable port c.self.invariant few
-    (subst IsAcquirable (sym c.self.view_is) c.requires.acquirable)
+    subst FitsChannels (sym c.deref.ensures.value)
+    (FitsChannels-acquirable port c.self.invariant few
+    (subst IsAcquirable (sym c.self.view_is) c.requires.acquirable))
 
 pub invariant_of-self : goal.invariant_of-self
 invariant_of-self g c =
