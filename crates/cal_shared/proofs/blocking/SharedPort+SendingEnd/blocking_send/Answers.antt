@@ -1,5 +1,6 @@
 use Rattle.std.proofs.Common.{◌≡◌, refl, sym, ap, ◌∙◌, subst}
 use Rattle.std.specs.Prelude.{Bool, true, false, Err}
+use Rattle.std.proofs.lemmas.Result.{err_from_is_err_and}
 use Rattle.cal_shared.specs.Port.{OnChannel, Pair}
 use Rattle.cal_shared.specs.Sending.{TriesToSend}
 use Rattle.cal_shared.specs.Turns.{passes}
@@ -13,18 +14,20 @@ returns-then-has_enabled_safe_overflow-clause-sent g c =
     (sym c.has_enabled_safe_overflow.ensures.value ∙ c.if-has_enabled_safe_overflow.true) c.try_send.ensures.sent
 
 pub returns-in_err-await_room : goal.returns-in_err-await_room
-returns-in_err-await_room g c = record {
-  sent = SendsBlocking-awaited _ c.args.action c.args.channel_id c.args.ptr c.args.sample_size
-      (Err c.in_err-await_room.field-0.0) c.args.self.now c.await_room.new.self
-      c.args.self.now.settings.enable_safe_overflow
-      (sym c.has_enabled_safe_overflow.ensures.value ∙ c.if-has_enabled_safe_overflow.false) (record {
-        outcome = Err c.in_err-await_room.field-0.0;
-        last = c.await_room.new.self;
-        awaits = c.in_err-await_room.ensures.awaited;
-        send = (refl, refl);
-      });
-  pair = c.await_room.ensures.pair;
-}
+returns-in_err-await_room g c =
+    let p = err_from_is_err_and c.from_residual.result c.from_residual.ensures.1 in
+    let is : c.from_residual.result ≡ Err c.in_err-await_room.field-0.0 = cc (p.1, p.2) in
+    record {
+      sent = SendsBlocking-awaited _ c.args.action c.args.channel_id c.args.ptr c.args.sample_size
+          c.from_residual.result c.args.self.now c.await_room.new.self c.args.self.now.settings.enable_safe_overflow
+          (sym c.has_enabled_safe_overflow.ensures.value ∙ c.if-has_enabled_safe_overflow.false) (record {
+            outcome = Err c.in_err-await_room.field-0.0;
+            last = c.await_room.new.self;
+            awaits = c.in_err-await_room.ensures.awaited;
+            send = (is, refl);
+          });
+      pair = c.await_room.ensures.pair;
+    }
 
 pub try_send-requires-2 : goal.try_send-requires-2
 try_send-requires-2 g c = record {
