@@ -1,12 +1,11 @@
 -- What an exchange of a word did, by its answer.
-use Rattle.std.specs.Prelude.{◌≡◌, ◌≢◌, ℕ, ◌==◌, Bool, true, false, ◌⊎◌, IfErr, MatchBool, MatchResult, OnOk, Result, Ok, Err, is_err, is_ok}
+use Rattle.std.specs.Prelude.{◌≡◌, ◌≢◌, ℕ, ◌==◌, Bool, true, false, ◌⊎◌, IfErr, MatchBool, MatchResult, OnOk, Result, Ok, Err, is_ok}
 use Rattle.std.specs.Bool.{OnFalse, OnTrue}
 use Rattle.std.proofs.Common.{refl, sym, ap, ◌∙◌, subst, inl, inr}
 use Rattle.std.proofs.lemmas.Bool.Decides.{eqb_tells}
 use Rattle.cal_queue.specs.StateAnswers.{LeftMark, LeftOther, WasAbsent}
 use Rattle.cal_queue.specs.StateTable.{after_step, channel_index, exchange_step, load_step, write_step}
 use Rattle.cal_queue.specs.declared.state_table.pass.StatePass.{StatePass}
-use Rattle.cal_queue.specs.declared.state_table.pass.StateStep.{StateStep}
 use Rattle.cal_connection.specs.Words.{closed, with_hint}
 use Rattle.cal_shared.specs.Words.{ClosesChannel, Exchanged, ExchangesWord, Leaves, SetsHint, SetsState}
 

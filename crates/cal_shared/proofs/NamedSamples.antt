@@ -1,10 +1,9 @@
 -- The sample that an offset names is one of the channel that is found at its number.
-use Rattle.std.specs.Prelude.{◌≡◌, ℕ, ◌/◌, ◌<◌, length}
+use Rattle.std.specs.Prelude.{ℕ, ◌/◌, ◌<◌, length}
 use Rattle.std.proofs.Common.{sym, subst}
 use Rattle.cal_alloc.specs.PointerOffset.{offset_of, segment_of}
 use Rattle.cal_queue.specs.UsedChunks.{capacity_of}
 use Rattle.cal_connection.specs.Channel.{segment_at}
-use Rattle.cal_connection.specs.declared.settings.ConnectionSettings.{ConnectionSettings}
 use Rattle.cal_shared.specs.Channels.{FitsSender}
 use Rattle.cal_shared.specs.Port.{SendingPort}
 use Rattle.cal_shared.specs.Sending.{IsWithin}

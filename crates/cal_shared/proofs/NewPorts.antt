@@ -1,5 +1,5 @@
 -- New ports are sound.
-use Rattle.std.specs.Prelude.{◌≡◌, ℕ, ◌+◌, ◌-◌, ◌^◌, ◌<◌, ◌≤◌, false, List, [], ◌∷◌, ◌++◌, length, map, replicate, All}
+use Rattle.std.specs.Prelude.{◌≡◌, ℕ, ◌+◌, ◌^◌, ◌<◌, false, List, [], ◌∷◌, ◌++◌, length, map, replicate, All}
 use Rattle.std.proofs.Common.{refl, sym, ap, ◌∙◌, subst, arith}
 use Rattle.std.proofs.Math.ListN.{get_or-map}
 use Rattle.std.proofs.lemmas.List.{get_or-replicate, get_or_default, length-map, length-replicate, length_push, map-append, same_lists}
@@ -16,7 +16,7 @@ use Rattle.cal_connection.specs.Settings.{IsClamped, completion_size}
 use Rattle.cal_connection.specs.declared.settings.ConnectionSettings.{ConnectionSettings}
 use Rattle.cal_shared.specs.Channels.{FitsReceiver, FitsSender, ReceivingChannel, Rings, SendingChannel}
 use Rattle.cal_shared.specs.New.{AreNewChannels, IsNewReceivingChannel, IsNewSendingChannel, both_ports}
-use Rattle.cal_shared.specs.Port.{IsSoundPort, Pair, Port}
+use Rattle.cal_shared.specs.Port.{IsSoundPort, Pair}
 
 map-replicate : {X Y : Type 0} (f : X → Y) (n : ℕ) (x : X) → map f (replicate n x) ≡ replicate n (f x)
 map-replicate f n x =

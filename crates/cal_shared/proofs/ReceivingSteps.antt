@@ -1,6 +1,6 @@
 -- The calls of a receiver's end of a channel, from what its rings and its count did.
 use Rattle.std.specs.Prelude.{◌≡◌, ℕ, ◌+◌, ◌-◌, ◌<◌, ◌^◌, ◌≤◌, ◌↔◌, Bool, IsFalse, [], ◌∷◌, ◌++◌, length, Option, Some, Result, Err}
-use Rattle.std.proofs.Common.{refl, sym, ap, ◌∙◌, arith, length-append}
+use Rattle.std.proofs.Common.{ap, ◌∙◌, arith, length-append}
 use Rattle.cal_queue.specs.CompletionCalls.{IsPush}
 use Rattle.cal_queue.specs.SubmissionCalls.{IsPop, LooksOnce}
 use Rattle.cal_queue.specs.declared.push_refusal.PushRefusal.{PushRefusal}

@@ -1,6 +1,6 @@
 -- A port after steps at the words that both ports share.
 use Rattle.std.specs.Prelude.{◌≡◌}
-use Rattle.std.proofs.Common.{refl, sym, ap, ◌∙◌, subst}
+use Rattle.std.proofs.Common.{ap, ◌∙◌, subst}
 use Rattle.atomic_table.specs.Seated.{TableId}
 use Rattle.cal_queue.specs.declared.state_table.pass.OpeningWords.{OpeningWords}
 use Rattle.cal_queue.specs.declared.state_table.pass.StatePass.{StatePass}

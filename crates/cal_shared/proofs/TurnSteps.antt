@@ -1,5 +1,5 @@
 -- The turns of a blocking send, from what each look and each answer did.
-use Rattle.std.specs.Prelude.{◌≡◌, ℕ, ◌/◌, Bool, true, false, ◌⊎◌, List, [], ◌∷◌, map, slice_get, unwrap_or, Option, Some, None, Result}
+use Rattle.std.specs.Prelude.{◌≡◌, ℕ, ◌/◌, Bool, true, false, List, [], ◌∷◌, slice_get, unwrap_or, Option, Some, None, Result}
 use Rattle.std.proofs.Common.{refl, sym, ap, ◌∙◌, subst, inl, inr, not}
 use Rattle.std.proofs.lemmas.Bool.{false≢true}
 use Rattle.cal_alloc.specs.PointerOffset.{offset_of, segment_of}

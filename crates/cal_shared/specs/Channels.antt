@@ -1,5 +1,5 @@
 -- What each port has of a channel: what it has done at the two rings, and what it alone keeps.
-use Rattle.std.specs.Prelude.{◌≡◌, ℕ, ◌+◌, ◌-◌, ◌≤◌, List, length, map, replicate}
+use Rattle.std.specs.Prelude.{◌≡◌, ℕ, ◌-◌, ◌≤◌, List, length, map, replicate}
 use Rattle.atomic_table.specs.Seated.{TableId}
 use Rattle.cal_queue.specs.declared.completion_ring.pass.GetPass.{GetPass}
 use Rattle.cal_queue.specs.declared.completion_ring.pass.PutPass.{PutPass}

@@ -1,5 +1,5 @@
 -- What a pair of ports is made with, and when that is too large for it.
-use Rattle.std.specs.Prelude.{ℕ, ◌^◌, Bool, ◌||◌, nat_le, max}
+use Rattle.std.specs.Prelude.{◌^◌, Bool, ◌||◌, nat_le, max}
 use Rattle.cal_connection.specs.declared.settings.ConnectionSettings.{ConnectionSettings}
 use Rattle.cal_connection.specs.Settings.{completion_size, is_too_large}
 use Rattle.cal_shared.specs.declared.port_settings.PortSettings.{PortSettings}

@@ -1,7 +1,6 @@
 -- The turns of a blocking send, and what they lead to.
 use Rattle.std.specs.Prelude.{◌≡◌, ℕ, Bool, true, false, ◌⊎◌, List, [], ◌∷◌, Option, Some, None, Result, Ok, Err, MatchResult}
 use Rattle.cal_queue.specs.StateTable.{after_step, channel_index, load_step, port_index}
-use Rattle.cal_queue.specs.declared.state_table.pass.StatePass.{StatePass}
 use Rattle.cal_connection.specs.Backpressure.{asks_again, ends_turns, next_retry, sets_fail_mark}
 use Rattle.cal_connection.specs.Words.{is_closed, is_connected}
 use Rattle.cal_connection.specs.declared.backpressure.BackpressureToReceiverAction.{BackpressureToReceiverAction}

@@ -1,4 +1,4 @@
-use Rattle.std.proofs.Common.{sym, ap, ◌∙◌, subst}
+use Rattle.std.proofs.Common.{sym, ap, subst}
 use Rattle.std.specs.Prelude.{Bool}
 use Rattle.cal_queue.specs.StateSeats.{pass}
 use Rattle.cal_queue.specs.StateTable.{channel_index}

@@ -1,5 +1,5 @@
 use Rattle.std.proofs.Common.{◌≡◌, refl, sym, ap, ◌∙◌, subst}
-use Rattle.std.specs.Prelude.{Bool, true, false, Err}
+use Rattle.std.specs.Prelude.{Bool, false, Err}
 use Rattle.std.proofs.lemmas.Result.{err_from_is_err_and}
 use Rattle.cal_shared.specs.Port.{OnChannel, Pair}
 use Rattle.cal_shared.specs.Sending.{TriesToSend}

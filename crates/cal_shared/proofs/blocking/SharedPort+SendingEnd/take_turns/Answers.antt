@@ -1,4 +1,4 @@
-use Rattle.std.proofs.Common.{◌≡◌, ℕ, ◌<◌, refl, sym, ap, ◌∙◌, subst, inl, inr, not, arith}
+use Rattle.std.proofs.Common.{◌<◌, refl, sym, ap, ◌∙◌, subst, inl, inr, not, arith}
 use Rattle.cal_connection.specs.declared.settings.ConnectionSettings.{ConnectionSettings}
 use Rattle.cal_shared.specs.Port.{Pair}
 use Rattle.cal_shared.proofs.TurnSteps.{Continues-after_asking, Continues-at_start, Continues-while_waiting, SomeTurns-answered, SomeTurns-by_look}

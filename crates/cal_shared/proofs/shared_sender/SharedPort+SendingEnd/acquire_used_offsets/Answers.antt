@@ -1,4 +1,4 @@
-use Rattle.std.proofs.Common.{◌≡◌, ◌≤◌, sym, ap, ◌∙◌, subst, arith}
+use Rattle.std.proofs.Common.{◌≤◌, sym, ap, ◌∙◌, subst, arith}
 use Rattle.cal_queue.specs.StateSeats.{pass}
 use Rattle.cal_shared.specs.Acquiring.{FitsChannels, IsAcquirable}
 use Rattle.cal_shared.specs.Port.{SendingPort, pair_of_sender}
