@@ -122,4 +122,3 @@ pub ClosesChannel-named : (channel channel' state state' : ℕ) (before after : 
 ClosesChannel-named channel channel' state state' before after on to closes =
     subst (λ (c : ℕ). ClosesChannel c state before after) on
     (subst (λ (s : ℕ). ClosesChannel channel' s before after) to closes)
-

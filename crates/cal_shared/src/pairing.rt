@@ -80,8 +80,7 @@ fn new_pair(
     ensures sender { IfOk result (λ ports. IsNewPort IsNewSendingChannel settings.now initial ports.0) }
     ensures receiver { IfOk result (λ ports. IsNewPort IsNewReceivingChannel settings.now initial ports.1) }
 {
-    let (first, second) =
-        StateTable::new(alloc, settings.number_of_channels, BOTH_PORTS, initial)?;
+    let (first, second) = StateTable::new(alloc, settings.number_of_channels, BOTH_PORTS, initial)?;
     let (sending, receiving) = new_channels(alloc, settings)?;
     let sender = SharedPort {
         settings: *settings,

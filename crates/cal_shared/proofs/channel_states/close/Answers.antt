@@ -15,7 +15,7 @@ returns-then-closed-clause-closed c =
 pub returns-clause-closed : goal.returns-clause-closed
 returns-clause-closed c =
     let second : Exchanged (channel_index c.args.channel) c.with_hint-hinted.result closed c.exchange-closed_then.result
-        (pass c.exchange-closed.new.states) (pass c.exchange-closed_then.new.states) =
+    (pass c.exchange-closed.new.states) (pass c.exchange-closed_then.new.states) =
     c.exchange-closed_then.ensures.exchanged in
     ClosesChannel-twice c.args.channel c.args.state _ _ _ c.exchange-closed.result c.exchange-closed.ensures.exchanged
     c.if-closed.false
