@@ -43,6 +43,7 @@ fn refusals_are_named(rt: HostRuntime) -> Result<(), Fail> {
         (
             Settings {
                 strategy: AllocationStrategy::Static,
+                count: 8,
                 ..SETTINGS
             },
             FrameError::Refused(Refusal::SizeTooLarge),

@@ -1,0 +1,10 @@
+mod Parts
+mod Numbers
+mod Named
+mod Done
+mod Making
+mod Queueing
+mod Header
+mod Commands
+mod Reading
+mod Standing
