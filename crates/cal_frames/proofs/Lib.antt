@@ -6,5 +6,8 @@ mod Making
 mod Queueing
 mod Header
 mod Commands
+mod Sending
 mod Reading
+mod Taking
 mod Standing
+mod Showing
