@@ -10,4 +10,4 @@ mod Sending
 mod Reading
 mod Taking
 mod Standing
-mod Showing
+mod Progress

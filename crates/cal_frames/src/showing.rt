@@ -1,16 +1,20 @@
 //! Frames go from the camera to the screen.
 
+ghost use Rattle.std.specs.Prelude.{◌≡◌, ◌+◌, ◌<◌, ◌≤◌, IfOk, OnOk};
+ghost use Rattle.cal_frames.specs.InOrder.{ArePartInOrder, last_of};
+ghost use Rattle.cal_frames.specs.Sides.{Shows};
+
 use crate::camera::hand_over;
 use crate::frame_error::FrameError;
 use crate::screen::take_frame;
 use cal_transport::{Bytes, Settings, Transport};
 use std::alloc::Global;
 
-/// The transport has room for this many loans a frame.
-const ROOM_A_FRAME: usize = 8;
+/// For how many loans a transport keeps room a frame: each command but a read may take room of one.
+const ROOM: usize = 8;
 
-/// Hands each frame over in turn; after as many as the rhythm says the screen takes one, and in the end all that wait.
-/// The frames shown, in order.
+/// Hands each frame over in turn. After as many as the rhythm says, the screen takes the oldest that waits, and in the
+/// end all that wait. What was shown are some of the frames, byte for byte and in their order, and the last is shown.
 pub fn show_frames(
     alloc: Global,
     settings: &Settings,
@@ -18,19 +22,33 @@ pub fn show_frames(
     rhythm: usize,
 ) -> Result<Vec<Bytes>, FrameError>
     requires rhythm { 0 < rhythm }
+    ensures order { IfOk result (λ shown. ArePartInOrder shown.items frames.now) }
+    ensures last { IfOk result (λ shown. last_of shown.items ≡ last_of frames.now) }
 {
-    let mut transport = Transport::open(alloc, settings, frames.len() * ROOM_A_FRAME)?;
+    let mut transport = Transport::open(alloc, settings, frames.len() * ROOM)?;
     let mut shown = Vec::new(alloc);
     for (number, frame) in frames.iter().enumerate() {
         hand_over(alloc, &mut transport, number, frame.as_slice())?;
         if (number + 1) % rhythm == 0 {
-            if let Some(frame) = take_frame(alloc, &mut transport)? {
-                shown.push(frame)?;
-            }
+            show_next(alloc, &mut transport, &mut shown)?;
         }
     }
-    while let Some(frame) = take_frame(alloc, &mut transport)? {
-        shown.push(frame)?;
-    }
+    while show_next(alloc, &mut transport, &mut shown)? {}
     Ok(shown)
+}
+
+/// Shows the oldest frame that waits behind those that were shown; whether there was one.
+fn show_next(
+    alloc: Global,
+    transport: &mut Transport,
+    shown: &mut Vec<Bytes>,
+) -> Result<bool, FrameError>
+    ensures shown { IfOk result (λ some. Shows transport.old shown.old.items some transport.new shown.new.items) }
+    ensures room { OnOk result (transport.old.spare ≤ transport.new.spare + 2) }
+{
+    let Some(frame) = take_frame(alloc, transport)? else {
+        return Ok(false);
+    };
+    shown.push(frame)?;
+    Ok(true)
 }
