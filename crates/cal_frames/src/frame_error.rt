@@ -22,6 +22,11 @@ pub enum FrameError {
 }
 
 impl From<OpenError> for FrameError {
+    ghost use Rattle.std.specs.Prelude.{◌≡◌};
+    ghost use Rattle.cal_frames.specs.Errors.{error_of_open};
+
+    ghost from_gives = { λ error why. why ≡ error_of_open error };
+
     fn from(error: OpenError) -> FrameError {
         match error {
             OpenError::Create(cause) => FrameError::Create(cause),

@@ -1,13 +1,14 @@
 //! Frames go from the camera to the screen.
 
-ghost use Rattle.std.specs.Prelude.{◌≡◌, ◌+◌, ◌<◌, ◌≤◌, IfOk, OnOk};
+ghost use Rattle.std.specs.Prelude.{◌≡◌, ◌+◌, ◌<◌, ◌≤◌, Some, Err, IfOk, OnOk};
+ghost use Rattle.cal_transport.specs.Settings.{create_cause};
 ghost use Rattle.cal_frames.specs.InOrder.{ArePartInOrder, last_of};
 ghost use Rattle.cal_frames.specs.Sides.{Shows};
 
 use crate::camera::hand_over;
 use crate::frame_error::FrameError;
 use crate::screen::take_frame;
-use cal_transport::{Bytes, Settings, Transport};
+use cal_transport::{Bytes, CreateCause, Settings, Transport};
 use std::alloc::Global;
 
 /// For how many loans a transport keeps room a frame: each command but a read may take room of one.
@@ -22,6 +23,8 @@ pub fn show_frames(
     rhythm: usize,
 ) -> Result<Vec<Bytes>, FrameError>
     requires rhythm { 0 < rhythm }
+    ensures create { (cause : CreateCause) → create_cause settings.now ≡ Some cause →
+        result ≡ Err (FrameError.Create cause) }
     ensures order { IfOk result (λ shown. ArePartInOrder shown.items frames.now) }
     ensures last { IfOk result (λ shown. last_of shown.items ≡ last_of frames.now) }
 {

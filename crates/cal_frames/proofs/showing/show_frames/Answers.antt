@@ -44,10 +44,10 @@ loop-number-preserved c =
             room = omega arith;
           })
       | else-number-rhythm-eq0 w ↦ (let same = ap (λ (t : TransportState). t.spare) w.transport-is in record {
-          showing = is_as_left c.if-number-rhythm-eq0.transport c.hand_over.new.transport frames
-              c.if-number-rhythm-eq0.shown.items shown (number + 1) w.transport-is (ap vec_items w.shown-is) handed;
-          room = omega arith;
-        })
+        showing = is_as_left c.if-number-rhythm-eq0.transport c.hand_over.new.transport frames
+            c.if-number-rhythm-eq0.shown.items shown (number + 1) w.transport-is (ap vec_items w.shown-is) handed;
+        room = omega arith;
+      })
     ]
 
 pub loop-shown-init : goal.loop-shown-init
