@@ -1,24 +1,23 @@
 -- What each command does to the frames that a transport carries.
-use Rattle.std.proofs.Common.{ℕ, zero, suc, ◌+◌, ◌^◌, ◌<◌, ◌≤◌, ◌≡◌, inl, inr, true, false, List, [], ◌∷◌, ◌++◌, length, get_or, Option, Some, None, option_map, refl, sym, ap, ◌∙◌, subst, arith}
+use Rattle.std.proofs.Common.{ℕ, ◌+◌, ◌^◌, ◌<◌, ◌≡◌, inl, inr, true, false, List, [], ◌∷◌, ◌++◌, length, get_or, Option, Some, None, option_map, refl, sym, ap, ◌∙◌, subst, arith}
 use Rattle.std.specs.List.{slice_get}
 use Rattle.std.proofs.lemmas.Bool.{cases_lt}
 use Rattle.std.proofs.lemmas.List.{length_push}
-use Rattle.std.proofs.lemmas.Option.{none-some, same_Some, slice_get-get_or}
+use Rattle.std.proofs.lemmas.Option.{slice_get-get_or}
 use Rattle.cal_transport.specs.declared.command.Command.{Command}
 use Rattle.cal_transport.specs.declared.command.Command.TheVariants as command
 use Rattle.cal_transport.specs.declared.reply.Reply.{Reply}
-use Rattle.cal_transport.specs.declared.reply.Reply.TheVariants.{Loaned, Written, Sent, Received, Shown, Released, Reclaimed, Discarded, Refused}
-use Rattle.cal_transport.specs.declared.reply.Refusal.{Refusal}
+use Rattle.cal_transport.specs.declared.reply.Reply.TheVariants.{Loaned, Written, Sent, Received, Released, Reclaimed, Discarded}
 use Rattle.cal_transport.specs.declared.reply.Slot.{Slot}
-use Rattle.cal_transport.specs.Ledger.{Ledger, Chunk, ChannelHistory, new_history, chunk_named, history_on, queued_names, completed_names}
+use Rattle.cal_transport.specs.Ledger.{Ledger, Chunk, ChannelHistory, new_history, history_on, queued_names, completed_names}
 use Rattle.cal_transport.specs.Standing.{StandsFor, Does, DoesAnywhere}
 use Rattle.cal_transport.specs.State.{TransportState}
-use Rattle.cal_transport.specs.Step.{after_command, after_step, front, slot_of, slot_named, bytes_of_chunk, history_after_send, history_after_receive, history_after_release, history_after_reclaim, name_sent_back}
-use Rattle.cal_frames.specs.Carrying.{BeginsWith, AreNamedBelow, HasFrames, HasQueue, Carries, packet_of}
+use Rattle.cal_transport.specs.Step.{after_command, after_step, front, slot_of, slot_named, history_after_release, history_after_reclaim}
+use Rattle.cal_frames.specs.Carrying.{AreNamedBelow, HasFrames, HasQueue, Carries, packet_of}
 use Rattle.cal_frames.specs.Sides.{CarriesNext}
 use Rattle.cal_frames.proofs.Done.{IsDone, done}
 use Rattle.cal_frames.proofs.Making.{IsMaking, loaned, wrote, made_frame, made_named, frames_same, frames_unchanged, grown_histories}
-use Rattle.cal_frames.proofs.Named.{KeepsName, named_same, named_changed, begins_same, find_named}
+use Rattle.cal_frames.proofs.Named.{KeepsName, named_same, named_changed, find_named}
 use Rattle.cal_frames.proofs.Queueing.{queue_same, queue_kept, queued_next, queue_taken, queue_not_taken, first_queued, none_queued}
 
 -- a transport with frames, and a chunk in the making that begins with these bytes

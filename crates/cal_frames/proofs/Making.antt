@@ -1,18 +1,18 @@
 -- How a chunk with a frame is made, command by command: what the ledger has of chunks.
-use Rattle.std.proofs.Common.{ℕ, zero, suc, ◌+◌, ◌/◌, ◌^◌, ◌<◌, ◌≤◌, ◌≡◌, ◌≢◌, Bool, true, false, cond, List, [], ◌∷◌, ◌++◌, length, take, drop, Option, Some, None, refl, sym, ap, ◌∙◌, subst, arith}
+use Rattle.std.proofs.Common.{ℕ, zero, suc, ◌+◌, ◌/◌, ◌^◌, ◌<◌, ◌≡◌, Bool, true, false, cond, List, [], ◌∷◌, ◌++◌, length, drop, Some, refl, sym, ap, ◌∙◌, subst, arith}
 use Rattle.std.specs.List.{slice_get}
-use Rattle.std.proofs.lemmas.List.{append_assoc, take_at, length_push}
+use Rattle.std.proofs.lemmas.List.{take_at, length_push}
 use Rattle.std.proofs.lemmas.Option.{same_Some, none-some, slice_get_within}
 use Rattle.cal_transport.specs.declared.command.Command.TheVariants as command
 use Rattle.cal_transport.specs.declared.reply.Reply.{Reply}
 use Rattle.cal_transport.specs.declared.reply.Reply.TheVariants.{Loaned}
 use Rattle.cal_transport.specs.declared.reply.Slot.{Slot}
-use Rattle.cal_transport.specs.Ledger.{Ledger, Chunk, ChannelHistory, layout_at, current}
+use Rattle.cal_transport.specs.Ledger.{Ledger, Chunk, layout_at, current}
 use Rattle.cal_transport.specs.LoanCause.{serves, next_segment}
 use Rattle.cal_transport.specs.Cause.{current_segment}
 use Rattle.cal_transport.specs.Step.{after_command, after_loan, grown_ledger, new_chunk, with_bytes, with_changed_chunk}
 use Rattle.cal_frames.specs.Carrying.{BeginsWith, AreNamedBelow, HasFrames, packet_of}
-use Rattle.cal_frames.proofs.Named.{KeepsName, named_same, begins_same, named_added, begins_added, begins_new, named_changed, begins_elsewhere, begins_unchanged, begins_changed}
+use Rattle.cal_frames.proofs.Named.{KeepsName, begins_same, named_added, begins_added, begins_new, named_changed, begins_elsewhere, begins_unchanged, begins_changed}
 
 -- ---- the same chunks
 

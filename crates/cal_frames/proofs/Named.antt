@@ -1,9 +1,9 @@
 -- Chunks by their names: what is found after one was added or changed.
-use Rattle.std.proofs.Common.{ℕ, zero, suc, ◌+◌, ◌<◌, ◌≡◌, ◌≢◌, inl, inr, Bool, cond, nat_eq, List, [], ◌∷◌, ◌++◌, map, Option, Some, None, option_map, refl, sym, ap, ◌∙◌, subst, arith}
+use Rattle.std.proofs.Common.{ℕ, zero, suc, ◌+◌, ◌<◌, ◌≡◌, ◌≢◌, inl, inr, Bool, cond, nat_eq, List, [], ◌∷◌, ◌++◌, Some, None, refl, sym, ap, ◌∙◌, arith}
 use Rattle.std.specs.List.{slice_get, find}
 use Rattle.std.proofs.lemmas.Bool.Decides.{eqb_tells}
 use Rattle.std.proofs.lemmas.Option.{same_Some, none-some}
-use Rattle.cal_transport.specs.Ledger.{Ledger, Chunk, chunk_named}
+use Rattle.cal_transport.specs.Ledger.{Ledger, Chunk}
 use Rattle.cal_transport.specs.Step.{with_changed_chunk}
 use Rattle.cal_frames.specs.Carrying.{BeginsWith, AreNamedBelow}
 

@@ -1,11 +1,11 @@
 -- What was shown so far, as frames are handed over and taken.
-use Rattle.std.proofs.Common.{ℕ, zero, suc, ◌+◌, ◌<◌, ◌≤◌, ◌≡◌, max, Bool, true, false, List, [], ◌∷◌, ◌++◌, length, take, replicate, get_or, Some, None, refl, sym, ap, ◌∙◌, subst, arith, add-one}
+use Rattle.std.proofs.Common.{ℕ, zero, suc, ◌+◌, ◌<◌, ◌≤◌, ◌≡◌, Bool, true, false, List, [], ◌∷◌, ◌++◌, length, take, replicate, get_or, Some, None, refl, sym, ap, ◌∙◌, subst, arith, add-one}
 use Rattle.std.specs.List.{slice_get}
-use Rattle.std.proofs.lemmas.List.{length-take-le, length-replicate, take_all, take-take}
+use Rattle.std.proofs.lemmas.List.{length-take-le, length-replicate, take_all}
 use Rattle.std.proofs.lemmas.Option.{none-some}
 use Rattle.cal_transport.specs.declared.settings.Settings.{Settings}
 use Rattle.cal_transport.specs.ChunkEntry.{AreBelow}
-use Rattle.cal_transport.specs.Ledger.{ChannelHistory, first_ledger, new_history}
+use Rattle.cal_transport.specs.Ledger.{first_ledger, new_history}
 use Rattle.cal_transport.specs.Settings.{clamped_settings}
 use Rattle.cal_transport.specs.Standing.{StandsFor}
 use Rattle.cal_transport.specs.State.{TransportState}

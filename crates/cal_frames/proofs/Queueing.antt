@@ -1,9 +1,9 @@
 -- The queue of the channel, command by command.
-use Rattle.std.proofs.Common.{ℕ, zero, suc, ◌+◌, ◌<◌, ◌≤◌, ◌≡◌, ◌⊎◌, inl, inr, Bool, true, false, cond, List, [], ◌∷◌, ◌++◌, length, map, drop, set, get_or, Option, Some, None, option_to_list, refl, sym, ap, ◌∙◌, subst, arith}
+use Rattle.std.proofs.Common.{ℕ, suc, ◌+◌, ◌<◌, ◌≤◌, ◌≡◌, inl, inr, Bool, true, false, cond, [], ◌∷◌, ◌++◌, length, drop, set, get_or, Option, Some, None, refl, sym, ap, ◌∙◌, arith}
 use Rattle.std.proofs.lemmas.Bool.{cases_lt}
 use Rattle.std.proofs.lemmas.List.{get_or-set_same, length-set, length_push, append-nil}
-use Rattle.std.proofs.lemmas.Option.{none-some, same_Some}
-use Rattle.cal_transport.specs.Ledger.{Ledger, ChannelHistory, Departure, ByReceive, ByOverflow, history_on, new_history, numbers_below, queued_names}
+use Rattle.std.proofs.lemmas.Option.{none-some}
+use Rattle.cal_transport.specs.Ledger.{Ledger, ChannelHistory, ByReceive, ByOverflow, history_on, new_history, numbers_below, queued_names}
 use Rattle.cal_transport.specs.Cause.{is_buffer_full}
 use Rattle.cal_transport.specs.Step.{front, name_sent_back, history_after_send, history_after_receive}
 use Rattle.cal_frames.specs.Carrying.{HasQueue}

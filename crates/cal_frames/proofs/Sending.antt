@@ -1,12 +1,12 @@
 -- A frame is handed over by six commands.
-use Rattle.std.proofs.Common.{ℕ, ◌+◌, ◌^◌, ◌<◌, ◌≡◌, List, [], ◌∷◌, ◌++◌, length, Option, refl, sym, ap, ◌∙◌, subst}
+use Rattle.std.proofs.Common.{ℕ, ◌^◌, ◌<◌, ◌≡◌, List, [], ◌∷◌, ◌++◌, length, Option, refl, sym, ◌∙◌, subst}
 use Rattle.std.specs.Int.{w64, to_le_bytes}
 use Rattle.cal_transport.specs.declared.command.Command.TheVariants as command
 use Rattle.cal_transport.specs.declared.reply.Reply.TheVariants.{Loaned, Written, Sent, Reclaimed, Discarded}
 use Rattle.cal_transport.specs.declared.reply.Slot.{Slot}
 use Rattle.cal_transport.specs.Standing.{Does, DoesAnywhere}
 use Rattle.cal_transport.specs.State.{TransportState}
-use Rattle.cal_frames.specs.Carrying.{Carries, header_of, packet_of}
+use Rattle.cal_frames.specs.Carrying.{header_of}
 use Rattle.cal_frames.specs.Sides.{HandsOver}
 use Rattle.cal_frames.proofs.Commands.{loan_makes, write_makes, send_carries, discard_carries, reclaim_carries}
 use Rattle.cal_frames.proofs.Header.{header_is, length-header}

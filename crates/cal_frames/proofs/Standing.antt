@@ -1,10 +1,10 @@
 -- What a transport that carries frames shows.
-use Rattle.std.proofs.Common.{ℕ, zero, suc, ◌+◌, ◌<◌, ◌≡◌, List, [], ◌∷◌, length, map, Option, Some, None, option_map, refl, sym, ap, ◌∙◌, subst, arith}
+use Rattle.std.proofs.Common.{ℕ, zero, suc, ◌+◌, ◌≡◌, List, [], ◌∷◌, length, map, Some, refl, sym, ap, ◌∙◌, arith}
 use Rattle.std.specs.List.{slice_get}
 use Rattle.std.proofs.lemmas.List.{length-map, length-drop}
 use Rattle.std.proofs.lemmas.Option.{same_Some, none-some, slice_get-get_or}
 use Rattle.cal_transport.specs.ChunkEntry.{AreBelow}
-use Rattle.cal_transport.specs.Ledger.{Ledger, Chunk, new_history, history_on, numbers_below, queued_names}
+use Rattle.cal_transport.specs.Ledger.{new_history, history_on, numbers_below, queued_names}
 use Rattle.cal_transport.specs.Shown.{entry_of, pointer_named}
 use Rattle.cal_transport.specs.State.{TransportState, core_of}
 use Rattle.cal_frames.specs.Carrying.{Carries}

@@ -1,12 +1,11 @@
 -- A frame is taken by a receive, two reads and a release.
-use Rattle.std.proofs.Common.{ℕ, ◌+◌, ◌≡◌, List, length, Some, None, refl, sym, ap, ◌∙◌, subst}
-use Rattle.std.specs.List.{slice_get}
+use Rattle.std.proofs.Common.{ℕ, ◌+◌, ◌≡◌, List, Some, None, sym, ap, ◌∙◌, subst}
 use Rattle.cal_transport.specs.declared.command.Command.TheVariants as command
 use Rattle.cal_transport.specs.declared.reply.Reply.TheVariants.{Received, Released}
 use Rattle.cal_transport.specs.declared.reply.Slot.{Slot}
 use Rattle.cal_transport.specs.Standing.{DoesAnywhere}
 use Rattle.cal_transport.specs.State.{TransportState}
-use Rattle.cal_frames.specs.Carrying.{BeginsWith, Carries, packet_of}
+use Rattle.cal_frames.specs.Carrying.{BeginsWith, packet_of}
 use Rattle.cal_frames.specs.Sides.{Reads, Takes}
 use Rattle.cal_frames.proofs.Commands.{receive_takes, release_carries}
 

@@ -1,7 +1,7 @@
 -- Frames in the chunks of a ledger: each frame has a chunk of its own, which is named by the frame's place.
-use Rattle.std.specs.Prelude.{ℕ, suc, ◌+◌, ◌^◌, ◌<◌, ◌≤◌, ◌≡◌, List, ◌++◌, length, Some, slice_get}
+use Rattle.std.specs.Prelude.{ℕ, ◌^◌, ◌<◌, ◌≤◌, ◌≡◌, List, ◌++◌, length, Some, slice_get}
 use Rattle.std.specs.Int.{w64, to_le_bytes}
-use Rattle.cal_transport.specs.Ledger.{Ledger, Chunk, ChannelHistory, chunk_named, history_on, numbers_below}
+use Rattle.cal_transport.specs.Ledger.{Ledger, Chunk, chunk_named, history_on, numbers_below}
 use Rattle.cal_transport.specs.Standing.{StandsFor}
 use Rattle.cal_transport.specs.State.{TransportState}
 
