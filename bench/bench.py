@@ -32,7 +32,8 @@ TWO_CHANNELS = f"transport {SIZE} 8 {BUCKETS} static {BUFFER} {BORROW} off {BUCK
 OVERFLOWING = f"transport {SIZE} 8 {BUCKETS} static {BUFFER} {BORROW} on {BUCKETS} 1 1"
 GROWING = f"transport 16 8 {BUCKETS} best {BUFFER} {BORROW} off {2 * BUCKETS} 255 1"
 SEGMENTS, CHUNKS = 256, 256
-FILLING = f"transport 8 8 {CHUNKS} best 1 1 off {CHUNKS} {SEGMENTS} 1"
+# No chunk of this script is sent, so the connection needn't know of more segments.
+FILLING = f"transport 8 8 {CHUNKS} best 1 1 off {CHUNKS} 1 1"
 CHANNELS, OVER_CHANNELS = 2**20, 100_000
 MANY_CHANNELS = f"transport {SIZE} 8 1 static 1 1 off 1 1 {CHANNELS}"
 

@@ -5,7 +5,8 @@
 
 PROGRAM is crates/cal_bench/out/cal_bench where it isn't given. In the first row one thread pushes each value into a
 submission ring and pops it again; in the second one thread sends all values with overflow, and another takes what it can of
-them, up to the last one; in the third one thread puts each value into a completion ring and gets it out again. Each thread
+them, up to the last one; in the third one thread puts each value into a completion ring and gets it out again; in the fourth one
+thread sends samples over a pair of ports and reclaims them, and another receives and releases each. Each thread
 is kept on a processor of its own. A row says the median of its runs, and the median share of the values that were received;
 the others came back to the sender. A run of which less than half was received tells what a sender alone costs, and isn't
 counted.
@@ -28,6 +29,7 @@ ROWS = [
     ("one", "push and pop, one thread", 1),
     ("two", "send with overflow, two threads", 2),
     ("completion", "put and get, one thread", 1),
+    ("ports", "send to reclaim over ports, two", 2),
 ]
 
 # Where a thread doesn't start within this many seconds, the run is over already.

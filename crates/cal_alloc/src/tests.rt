@@ -84,6 +84,24 @@ fn bump(alloc: Global) -> Result<BumpAllocator, Fail>
 }
 
 #[test]
+fn a_pool_hands_out_its_buckets(rt: HostRuntime) -> Result<(), Fail> {
+    let layout = Layout::new(24, 8).ok_or("the alignment is a power of two")?;
+    let config = pool_allocator::Config {
+        bucket_layout: layout,
+    };
+    assert!(rt; PoolAllocator::fits(48, &config));
+    let mut pool = PoolAllocator::new_uninit(4096, 48, &config);
+    pool.init(rt.alloc())?;
+    let first = pool.allocate(layout)?;
+    let second = pool.allocate(layout)?;
+    assert!(rt; (first.offset(), second.offset()) == (0, 24));
+    assert!(rt; pool.allocate(layout) == Err(ShmAllocationError::OutOfMemory));
+    pool.deallocate(first, layout);
+    assert!(rt; pool.allocate(layout) == Ok(first));
+    Ok(())
+}
+
+#[test]
 fn offset_and_segment_are_one_number(rt: HostRuntime) {
     let pointer = PointerOffset::from_offset_and_segment_id(100, SegmentId::new(5));
     assert!(rt; pointer.as_value() == 25605);

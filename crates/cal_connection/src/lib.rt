@@ -1,5 +1,22 @@
 //! Connections: a sender and a receiver over one entry of a registry, for one thread. The sender sends the offsets of
 //! samples on channels, the receiver gives them back, and the sender reclaims them.
+//!
+//! A sender gets back what a full channel has no place for, as a test does it:
+//!
+//! ```
+//! let mut reg = Registry::new(rt.alloc());
+//! let mut ends = connect::<InProcess>(
+//!     rt.alloc(),
+//!     &mut reg,
+//!     builder()?.buffer_size(1).enable_safe_overflow(true),
+//!     builder()?.buffer_size(1).enable_safe_overflow(true),
+//! )?;
+//! let first = PointerOffset::new(0);
+//! let second = PointerOffset::new(8);
+//! assert!(rt; matches!(send(&rt, &mut reg, &mut ends, first, 8, 0), Ok(None)));
+//! assert!(rt; send(&rt, &mut reg, &mut ends, second, 8, 0) == Ok(Some(first)));
+//! assert!(rt; receive(&rt, &mut reg, &mut ends, 0) == Ok(Some(second)));
+//! ```
 #![tactic(auto)]
 
 mod acquisition;

@@ -1,4 +1,14 @@
 //! Names of concepts, the configurations that make paths of them, and the hash of a type's name.
+//!
+//! A name, its path, and the name out of the path again, as a test does it:
+//!
+//! ```
+//! let name = FileName::new(b"mem").ok_or("a file name")?;
+//! let path = config.path_for(&name)?;
+//! assert!(rt; path.as_bytes() == ABC_MEM);
+//! assert!(rt; config.path_for_with_type(&name)? == path);
+//! assert!(rt; config.extract_name_from_path(&path) == Some(name));
+//! ```
 #![tactic(auto)]
 
 mod bounded_bytes;

@@ -123,6 +123,12 @@ pub count-parts : (shown a b c d e : List ℕ) →
     shown ++ (a ++ 32 ∷ (b ++ 32 ∷ (c ++ 32 ∷ (d ++ 32 ∷ e))))
 count-parts shown a b c d e = simp append_assoc
 
+-- a line of four words, each before a number
+pub line-parts : (shown a b c d e f g h : List ℕ) →
+    ((((((((shown ++ a) ++ b) ++ c) ++ d) ++ e) ++ f) ++ g) ++ h) ++ 10 ∷ [] ≡
+    shown ++ ((((((((a ++ b) ++ c) ++ d) ++ e) ++ f) ++ g) ++ h) ++ 10 ∷ [])
+line-parts shown a b c d e f g h = simp append_assoc
+
 -- a whole text failed
 pub whole-failed : (p q r : BufferState) (s t u : SinkState) (text : List ℕ) → p ≡ buffer_state [] false →
     Follows p s q t text → Follows q t r u [] → r.failed ≡ true → FailsWithin s u text

@@ -10,3 +10,8 @@ pub mod OutcomeLemmas
 pub mod RequestLemmas
 pub mod SpellingLemmas
 pub mod SettingsLemmas
+pub mod InUse
+pub mod RelaySending
+pub mod RelayReceiving
+pub mod NewRelay
+pub mod RelayForms

@@ -1,5 +1,5 @@
 -- One reply more, in the numbers to which replies come.
-use Rattle.std.proofs.Common.{◌≡◌, ℕ, ◌+◌, ◌≤◌, Some, List, ◌++◌, ◌∷◌, [], length, take, ap, ◌∙◌, subst, append_assoc, arith}
+use Rattle.std.proofs.Common.{◌≡◌, ℕ, ◌+◌, ◌≤◌, Some, List, length, take, ap, ◌∙◌, subst, arith}
 use Rattle.std.specs.Prelude.{slice_get, sum}
 use Rattle.std.specs.List.{sum_by}
 use Rattle.std.proofs.lemmas.List.{take_all}
@@ -88,9 +88,3 @@ summary_of-all s replies place past answered refused transit total =
     ∙ ap (λ (n : ℕ). summary (sum_by answer_count replies) (sum_by refusal_count replies)
     (sum_by transit_count replies) n)
     (total ∙ ap (sum_by (λ reply. sum (shown_bytes reply))) whole)
-
--- the parts of the line, one after another
-pub summary-parts : (shown a b c d e f g h : List ℕ) →
-    ((((((((shown ++ a) ++ b) ++ c) ++ d) ++ e) ++ f) ++ g) ++ h) ++ 10 ∷ [] ≡
-    shown ++ ((((((((a ++ b) ++ c) ++ d) ++ e) ++ f) ++ g) ++ h) ++ 10 ∷ [])
-summary-parts shown a b c d e f g h = simp append_assoc

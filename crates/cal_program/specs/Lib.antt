@@ -11,5 +11,7 @@ pub mod MemoryStreams
 pub mod ReadAll
 pub mod Printing
 pub mod Outcome
+pub mod Workers
+pub mod Relay
 pub mod Information
 pub mod Examples

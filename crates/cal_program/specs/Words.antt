@@ -31,6 +31,11 @@ is_only_word text [] = false
 is_only_word text (word ∷ []) = bytes_eq word text
 is_only_word text (word ∷ next ∷ words) = false
 
+-- the text is the first word
+abbrev pub is_first_word : List ℕ → List (List ℕ) → Bool
+is_first_word text [] = false
+is_first_word text (word ∷ words) = bytes_eq word text
+
 -- ---- numbers
 
 -- a zero begins no longer number

@@ -13,7 +13,10 @@ make runs a script that is made from the two numbers, eight commands a round and
      most 10000 rounds, and writes replies A refused B transit C sum D: the answers,
      the refusals among them, the chunks in transit, and the sum of all bytes read:
        cal_program make 1 10000
-relay isn't served yet.
+relay sends COUNT offsets from one thread to another over a channel that queues BUFFER
+     of them, 1 to 1024, COUNT at most 1000000. Where the queue is full the oldest one
+     comes back. It writes sent A received B returned C left D, and A is their sum:
+       cal_program relay 4 1000
 
 A script has one line for the settings, and then one line for each command. Words
 are one space apart. Numbers are decimal, HEX is two letters a byte or - for none.

@@ -8,6 +8,7 @@ mod clean;
 mod made;
 mod many;
 mod memory;
+mod relays;
 mod scripts;
 mod streams;
 mod worked_examples;

@@ -3,6 +3,18 @@
 //! as a list of numbers with a capacity, and a used list as a set of numbers below its capacity. A
 //! ring for two threads, or a table of words, is seen from each of its ends, by what that end has
 //! done.
+//!
+//! A full queue gives its oldest value back, as a test does it:
+//!
+//! ```
+//! let mut queue = SafelyOverflowingIndexQueue::new(rt.alloc(), 2)?;
+//! assert_eq!(rt; queue.push(1), None);
+//! assert_eq!(rt; queue.push(2), None);
+//! assert_eq!(rt; queue.push(3), Some(1));
+//! assert_eq!(rt; queue.pop(), Some(2));
+//! assert_eq!(rt; queue.pop(), Some(3));
+//! assert_eq!(rt; queue.pop(), None);
+//! ```
 #![tactic(auto)]
 
 mod bit_set;

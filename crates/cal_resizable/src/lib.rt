@@ -4,6 +4,21 @@
 //! The layer above may rely on this: the segments that are there are the current one and those with a chunk, their
 //! numbers only grow, one growth serves the request that led to it, and each call leaves every entry that isn't one of
 //! the memory's own.
+//!
+//! A memory grows by a segment, and a segment goes with its last chunk, as a test does it for any allocator `A`:
+//!
+//! ```
+//! let mut reg = Registry::new(alloc);
+//! let mut memory = memory::<A, Shm>(alloc, &mut reg, 1, AllocationStrategy::BestFit)?;
+//! let small = bytes(8)?;
+//! let large = bytes(16)?;
+//! let first = memory.allocate(alloc, &mut reg, small)?;
+//! let second = memory.allocate(alloc, &mut reg, large)?;
+//! assert!(rt; second.offset.segment_id().value() == 1);
+//! assert!(rt; memory.number_of_active_segments() == 2);
+//! memory.deallocate(&mut reg, first.offset, small);
+//! assert!(rt; memory.number_of_active_segments() == 1);
+//! ```
 #![tactic(auto)]
 
 pub mod chunk_laws;

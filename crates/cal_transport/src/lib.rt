@@ -1,4 +1,22 @@
 //! The transport: commands and replies, the ledger that they are a run of, and the calls that serve them.
+//!
+//! A chunk goes its way and comes back, as a test runs it:
+//!
+//! ```
+//! let mut commands = way_of_a_chunk(rt.alloc())?;
+//! commands.push(Command::Reclaim { channel: 0 })?;
+//! let mut end = None;
+//! match run_transport(rt.alloc(), &SMALL, commands.as_slice(), &mut end) {
+//!     Ok(replies) => {
+//!         assert_eq!(rt; replies.len(), 9);
+//!         assert_eq!(rt; replies.get(8), Some(&Reply::Reclaimed(Some(FIRST))));
+//!     }
+//!     Err(_) => return Err("the run is whole".into()),
+//! }
+//! let transport = end.ok_or("the run leaves its transport")?;
+//! assert_eq!(rt; transport.in_transit(), 0);
+//! assert_eq!(rt; transport.chunk(1), None);
+//! ```
 #![tactic(auto)]
 
 mod bytes;

@@ -1,0 +1,13 @@
+mod Parts
+mod Numbers
+mod Named
+mod Done
+mod Making
+mod Queueing
+mod Header
+mod Commands
+mod Sending
+mod Reading
+mod Taking
+mod Standing
+mod Progress

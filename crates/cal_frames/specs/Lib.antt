@@ -1,0 +1,4 @@
+pub mod InOrder
+pub mod Carrying
+pub mod Sides
+pub mod Errors

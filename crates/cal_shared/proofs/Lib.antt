@@ -1,0 +1,15 @@
+pub mod Answered
+pub mod Changed
+pub mod Exchanged
+pub mod FittingChannels
+pub mod FoundChannel
+pub mod NamedSamples
+pub mod NewPorts
+pub mod OneSample
+pub mod OnlyChannel
+pub mod Owed
+pub mod ReceivingSteps
+pub mod SameRings
+pub mod SendingSteps
+pub mod Stepped
+pub mod TurnSteps

@@ -1,0 +1,11 @@
+pub mod Acquiring
+pub mod Channels
+pub mod New
+pub mod Port
+pub mod PortLemmas
+pub mod Receiving
+pub mod Rest
+pub mod Sending
+pub mod Settings
+pub mod Turns
+pub mod Words
